@@ -21,12 +21,16 @@ use Rattle.net_core.specs.Sound.{IsSound}
 use Rattle.net_core.specs.declared.network.Network.{Network}
 use Rattle.sanlp.specs.declared.nest.Nest.{Nest}
 use Rattle.source_tree.specs.declared.cert.Cert.{Cert}
-use Rattle.compaan_top.specs.Answers.{Change, Ends, IsRead, ReadsFor, ReadsTo, no_memory, read_fault, written, cut_short}
+use Rattle.call_endings.specs.Changes.{Change}
+use Rattle.call_endings.specs.Complaints.{refusal_status}
+use Rattle.call_endings.specs.Endings.{no_memory, read_fault, written, cut_short}
+use Rattle.call_endings.specs.Outcomes.{Outcome, outcome_of}
+use Rattle.call_endings.specs.Reads.{ReadsFor, ReadsTo, bundle_limit}
+use Rattle.compaan_top.specs.Answers.{Ends, IsRead}
 use Rattle.command_answers.specs.Checking.{Checks, verdict_reply, part_missing, source_refused, unread, judged}
 use Rattle.compaan_top.specs.Certified.{Accepts}
 use Rattle.compaan_top.specs.Headline.{AcceptsWhatFits, HasFittingCertificate, HasSoundCertificate, accepted}
-use Rattle.compaan_top.specs.Outcome.{Outcome, IsOutcome, Performs, bundle_limit, outcome_of, words_refused, bundle_refused, performed}
-use Rattle.compaan_top.specs.Complaints.{refusal_status}
+use Rattle.compaan_top.specs.Outcome.{IsOutcome, Performs, words_refused, bundle_refused, performed}
 use Rattle.command_answers.specs.Replies.{Reply}
 use Rattle.command_answers.specs.declared.refusal.Refusal.{Refusal}
 use Rattle.command_answers.specs.declared.status.Status.{Status}
@@ -142,7 +146,7 @@ pub ends_vouched : VouchesFor → WhatFitsIsSound
 ends_vouched vouches sound wanted input output complaint order (no_memory quiet taken writes) ordered is done =
     absurd (no_memory_is_undone done)
 ends_vouched vouches sound wanted input output complaint order
-    (read_fault other others some fault taken writes) ordered is done = absurd (input_failed done)
+    (read_fault some fault taken writes) ordered is done = absurd (input_failed done)
 ends_vouched vouches sound wanted input output complaint order
     (written bundle outcome quiet reads outcome_is all) ordered is done = (
       bundle,

@@ -7,7 +7,8 @@ use Rattle.std.proofs.Common.{◌≡◌, ℕ, List, Option, Some, refl, sym, sub
 use Rattle.command_answers.specs.Statuses.{status_number}
 use Rattle.command_answers.specs.declared.status.Status.{Status}
 use Rattle.command_line.specs.declared.words.Order.{Order}
-use Rattle.compaan_top.specs.Answers.{Change, Ends}
+use Rattle.call_endings.specs.Changes.{Change}
+use Rattle.compaan_top.specs.Answers.{Ends}
 use Rattle.compaan_top.specs.Calls.{IsCallOf}
 use Rattle.compaan_top.specs.Headline.{AcceptsWhatFits}
 use Rattle.compaan_top.specs.Laws.{Succeeds}

@@ -39,9 +39,10 @@ use Rattle.witness_plan.specs.Schedules.{planned_network}
 use Rattle.compaan_top.specs.Certified.{Accepts, AgreeOn, Call, Certifies, HasCertificate, ReadCertificate, StandsForPlanned, WroteCertificate}
 use Rattle.compaan_top.specs.Commands.{reads_of}
 use Rattle.compaan_top.specs.Headline.{HasFittingCertificate, SaysAccepted}
-use Rattle.compaan_top.specs.Outcome.{Outcome, IsOutcome, Performs, outcome_of, words_refused, bundle_refused, performed}
+use Rattle.call_endings.specs.Complaints.{refusal_status}
+use Rattle.call_endings.specs.Outcomes.{Outcome, outcome_of}
+use Rattle.compaan_top.specs.Outcome.{IsOutcome, Performs, words_refused, bundle_refused, performed}
 use Rattle.compaan_top.specs.Certifying.{PrintsCertificate, source_refused, printed}
-use Rattle.compaan_top.specs.Complaints.{refusal_status}
 use Rattle.command_answers.specs.Replies.{Reply}
 use Rattle.command_answers.specs.Source as sized
 use Rattle.command_answers.specs.Source.{Gives, GivesWithinSize, no_tokens, no_tree, not_bound, bound}

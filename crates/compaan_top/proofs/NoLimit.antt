@@ -10,10 +10,13 @@ use Rattle.command_line.specs.declared.words.Command.{Command}
 use Rattle.command_line.specs.declared.words.Command.TheVariants.{Deps}
 use Rattle.command_line.specs.declared.words.Order.{Order}
 use Rattle.std.specs.Prelude.{◌≤◌, length}
-use Rattle.compaan_top.specs.Answers.{Change, Ends}
+use Rattle.call_endings.specs.Changes.{Change}
+use Rattle.call_endings.specs.Outcomes.{Outcome, outcome_of}
+use Rattle.call_endings.specs.Reads.{bundle_limit}
+use Rattle.compaan_top.specs.Answers.{Ends}
 use Rattle.compaan_top.specs.Commands.{reads_of}
 use Rattle.compaan_top.specs.Laws.{HasParts, IsDone, IsNestFor, IsValid, IsWithinOwnLimit, IsWithinSizeFor, Succeeds}
-use Rattle.compaan_top.specs.Outcome.{IsOutcome, Outcome, bundle_limit, bundle_refused, outcome_of, performed, words_refused}
+use Rattle.compaan_top.specs.Outcome.{IsOutcome, bundle_refused, performed, words_refused}
 use Rattle.compaan_top.specs.Telling.{GivesTrees}
 use Rattle.compaan_top.specs.Told.{ComesTo, IsAnswered, IsTold}
 use Rattle.compaan_top.proofs.SourceBytes.{comes_to}

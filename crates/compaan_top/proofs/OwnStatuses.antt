@@ -6,7 +6,7 @@
 -- reads, of a failed read (`calls_own`). That each status of a list arises isn't shown here. Where no sink has a fault,
 -- want of memory alone may be a status of calls for all words (`no_one_status`): refused words have their own or that,
 -- and those that order `seq` never theirs.
-use Rattle.std.proofs.Common.{◌≡◌, ◌∙◌, ◌⊎◌, ◌==◌, ◌++◌, ℕ, ℤ, true, true≢false, List, [], ◌∷◌, Option, Some, None, Result, Ok, Err, refl, sym, subst, inl, inr}
+use Rattle.std.proofs.Common.{◌≡◌, ◌∙◌, ◌⊎◌, ◌==◌, ◌++◌, ℕ, ℤ, true, true≢false, List, [], ◌∷◌, Option, Some, None, Result, Ok, Err, refl, sym, ap, subst, inl, inr}
 use Rattle.std.proofs.lemmas.Bool.{or_right}
 use Rattle.std.proofs.lemmas.Option.{same_Some}
 use Rattle.bundle.specs.Parts.{source_part, data_part}
@@ -23,22 +23,26 @@ use Rattle.sanlp.specs.declared.nest.Inputs.{Inputs}
 use Rattle.sanlp.specs.declared.nest.Nest.{Nest}
 use Rattle.witness_plan.specs.declared.schedules.Policy.{Policy}
 use Rattle.witness_plan.specs.declared.schedules.Policy.TheVariants as policy
-use Rattle.compaan_top.specs.Answers.{Change, Ends, HasFault, no_memory, read_fault, written, cut_short}
+use Rattle.call_endings.specs.Changes.{Change, HasFault}
+use Rattle.call_endings.specs.Complaints.{refusal_status}
+use Rattle.call_endings.specs.Endings.{no_memory, read_fault, written, cut_short}
+use Rattle.call_endings.specs.Outcomes.{Outcome, outcome_of}
+use Rattle.call_endings.specs.Reads.{Reads, source_alone, source_and_data, source_and_certificate, nothing}
+use Rattle.compaan_top.specs.Answers.{Ends}
 use Rattle.compaan_top.specs.Certifying as certify
 use Rattle.compaan_top.specs.Certifying.{PrintsCertificate}
 use Rattle.command_answers.specs.Checking as check
 use Rattle.command_answers.specs.Checking.{Checks, verdict_reply}
-use Rattle.compaan_top.specs.Commands.{Reads, source_alone, source_and_data, source_and_certificate, nothing, read_by, reads_of}
+use Rattle.compaan_top.specs.Commands.{read_by, reads_of}
 use Rattle.command_answers.specs.Describing as describe
 use Rattle.command_answers.specs.Describing.{Describes}
 use Rattle.compaan_top.specs.Laws.{HasStatusOf, MayEndWith, command_statuses, outcome_statuses, read_statuses}
 use Rattle.command_answers.specs.Load as load
 use Rattle.command_answers.specs.Load.{Loads}
-use Rattle.compaan_top.specs.Outcome.{Outcome, IsOutcome, outcome_of, Performs, words_refused, bundle_refused, performed}
+use Rattle.compaan_top.specs.Outcome.{IsOutcome, Performs, words_refused, bundle_refused, performed}
 use Rattle.command_answers.specs.Printing as print
 use Rattle.command_answers.specs.Printing.{Prints, network_text}
 use Rattle.command_answers.specs.Refusals.{byte_of, lex_refusal, bind_refusal}
-use Rattle.compaan_top.specs.Complaints.{refusal_status}
 use Rattle.command_answers.specs.Replies.{Reply}
 use Rattle.command_answers.specs.Run.{Runs, IsInputs, run_text, source_refused, data_refused, answered}
 use Rattle.command_answers.specs.Simulating.{simulation_text}
@@ -241,9 +245,8 @@ outcome_status wanted status own =
 pub calls_own : (wanted : Option Order) (input output complaint : Change) {status : Status}
     → Ends wanted input output complaint status → HasStatusOf wanted status
 calls_own wanted input output complaint (no_memory quiet taken writes) = refl
-calls_own wanted input output complaint (read_fault o x reads fault taken writes) =
-    subst (λ (w : Option Order). HasStatusOf w InputFailed) (sym x)
-    (read_status (reads_of o.command) (outcome_statuses (Some o)) reads)
+calls_own wanted input output complaint (read_fault some fault taken writes) =
+    read_status (read_by wanted) (outcome_statuses wanted) some
 calls_own wanted input output complaint (written bundle outcome quiet read is writes) =
     outcome_status wanted outcome.status (outcomes_own wanted bundle is)
 calls_own wanted input output complaint (cut_short bundle outcome quiet read is writes) = refl
@@ -263,8 +266,8 @@ refused_status : (wanted : Option Order) (input output complaint : Change) {stat
     → (HasFault output → ⊥) → (HasFault complaint → ⊥)
     → Ends wanted input output complaint status → (status ≡ WordsRefused) ⊎ (status ≡ NoMemory)
 refused_status wanted input output complaint none sound quiet (no_memory same taken writes) = inr refl
-refused_status wanted input output complaint none sound quiet (read_fault o x reads fault taken writes) =
-    absurd (no_order o (sym none ∙ x))
+refused_status wanted input output complaint none sound quiet (read_fault some fault taken writes) =
+    absurd (some (ap read_by none))
 refused_status wanted input output complaint none sound quiet (written bundle outcome same read is writes) =
     inl (refused_outcome wanted bundle none is)
 refused_status wanted input output complaint none sound quiet (cut_short bundle outcome same read is writes) =

@@ -16,11 +16,15 @@ use Rattle.command_answers.specs.declared.status.Status.TheVariants.{Done, Words
 use Rattle.command_line.specs.declared.words.Command.{Command}
 use Rattle.command_line.specs.declared.words.Command.TheVariants.{Check}
 use Rattle.command_line.specs.declared.words.Order.{Order}
-use Rattle.compaan_top.specs.Answers.{Change, Ends, IsRead, ReadsFor, ReadsTo, no_memory, read_fault, written, cut_short}
-use Rattle.compaan_top.specs.Commands.{Reads, source_alone, source_and_data, source_and_certificate, nothing, read_by, reads_of}
+use Rattle.call_endings.specs.Changes.{Change}
+use Rattle.call_endings.specs.Endings.{no_memory, read_fault, written, cut_short}
+use Rattle.call_endings.specs.Outcomes.{Outcome}
+use Rattle.call_endings.specs.Reads.{ReadsFor, ReadsTo, Reads, source_alone, source_and_data, source_and_certificate, nothing, bundle_limit}
+use Rattle.compaan_top.specs.Answers.{Ends, IsRead}
+use Rattle.compaan_top.specs.Commands.{read_by, reads_of}
 use Rattle.compaan_top.specs.Headline.{AcceptsWhatFits, IsAcceptable, SaysAccepted, accepted}
 use Rattle.compaan_top.specs.Laws.{IsDone, IsValid, Succeeds}
-use Rattle.compaan_top.specs.Outcome.{Outcome, IsOutcome, bundle_limit, words_refused, bundle_refused, performed}
+use Rattle.compaan_top.specs.Outcome.{IsOutcome, words_refused, bundle_refused, performed}
 use Rattle.compaan_top.specs.Told.{ComesTo, IsAnswered, IsTold}
 use Rattle.compaan_top.proofs.Acceptance.{IsUndone, VouchesFor, WhatFitsIsSound, outcome_vouched, too_long, with_sound}
 
@@ -89,7 +93,7 @@ pub comes_to : (wanted : Option Order) (input output complaint : Change) (bundle
     → Ends wanted input output complaint status
     → IsTold (read_by wanted) input.old bundle → IsAnswered status → ComesTo wanted bundle output complaint status
 comes_to wanted input output complaint bundle (no_memory quiet taken writes) told answered = absurd (answered.2 refl)
-comes_to wanted input output complaint bundle (read_fault order ordered some fault taken writes) told answered =
+comes_to wanted input output complaint bundle (read_fault some fault taken writes) told answered =
     absurd (answered.0 refl)
 comes_to wanted input output complaint bundle (written read outcome quiet gave is writes) told answered =
     record {

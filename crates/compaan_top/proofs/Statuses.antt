@@ -53,7 +53,10 @@ use Rattle.compaan_top.specs.Certifying as certify
 use Rattle.compaan_top.specs.Certifying.{PrintsCertificate}
 use Rattle.command_answers.specs.Checking as check
 use Rattle.command_answers.specs.Checking.{Checks, verdict_reply}
-use Rattle.compaan_top.specs.Commands.{reads_of, source_and_certificate}
+use Rattle.call_endings.specs.Complaints.{refusal_status}
+use Rattle.call_endings.specs.Outcomes.{Outcome, outcome_of}
+use Rattle.call_endings.specs.Reads.{source_and_certificate}
+use Rattle.compaan_top.specs.Commands.{reads_of}
 use Rattle.channel_plan.specs.Plans.{plans_of}
 use Rattle.node_automata.specs.declared.node.NodeAuto.{NodeAuto}
 use Rattle.process_derive.specs.Derived.{net}
@@ -70,10 +73,9 @@ use Rattle.command_answers.specs.Load.{Loads, load_limit}
 use Rattle.matrix_load.specs.Product.{IsMatrixNest, matrix_product, size_given}
 use Rattle.command_answers.specs.Printing as print
 use Rattle.command_answers.specs.Printing.{Prints, network_text}
-use Rattle.compaan_top.specs.Outcome.{Outcome, IsOutcome, outcome_of, Performs, words_refused, bundle_refused, performed}
+use Rattle.compaan_top.specs.Outcome.{IsOutcome, Performs, words_refused, bundle_refused, performed}
 use Rattle.command_answers.specs.Replies.{Reply}
 use Rattle.command_answers.specs.Refusals.{byte_of, lex_refusal, bind_refusal, size_refusal, data_refusal}
-use Rattle.compaan_top.specs.Complaints.{refusal_status}
 use Rattle.command_answers.specs.Run.{Runs, IsInputs, run_text, source_refused, data_refused, answered}
 use Rattle.command_answers.specs.Simulating.{simulation_text}
 use Rattle.compaan_top.specs.Telling as telling

@@ -6,7 +6,9 @@ use Rattle.command_answers.specs.declared.status.Status.{Status}
 use Rattle.command_answers.specs.declared.status.Status.TheVariants.{Done, LimitPassed}
 use Rattle.command_line.specs.declared.words.Command.TheVariants.{Check, Deps}
 use Rattle.command_line.specs.declared.words.Order.{Order}
-use Rattle.compaan_top.specs.Answers.{Change, Ends, ReadsTo}
+use Rattle.call_endings.specs.Changes.{Change}
+use Rattle.call_endings.specs.Reads.{ReadsTo}
+use Rattle.compaan_top.specs.Answers.{Ends}
 use Rattle.compaan_top.specs.Commands.{read_by, reads_of}
 use Rattle.compaan_top.specs.Headline.{HasSoundCertificate, IsAcceptable, SaysAccepted}
 use Rattle.compaan_top.specs.Laws.{HasStatusOf, IsDone, IsValid}

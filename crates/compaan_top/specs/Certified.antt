@@ -17,9 +17,12 @@ use Rattle.swept_net.specs.Certificates.{IsCertificate}
 use Rattle.sanlp.specs.declared.nest.Nest.{Nest}
 use Rattle.source_tree.specs.declared.cert.Cert.{Cert}
 use Rattle.witness_plan.specs.Schedules.{planned_network}
-use Rattle.compaan_top.specs.Answers.{Change, Ends}
+use Rattle.call_endings.specs.Changes.{Change}
+use Rattle.call_endings.specs.Outcomes.{Outcome}
+use Rattle.call_endings.specs.Reads.{bundle_limit}
+use Rattle.compaan_top.specs.Answers.{Ends}
 use Rattle.compaan_top.specs.Headline.{accepted}
-use Rattle.compaan_top.specs.Outcome.{Outcome, IsOutcome, bundle_limit}
+use Rattle.compaan_top.specs.Outcome.{IsOutcome}
 use Rattle.command_answers.specs.Source.{GivesWithinSize}
 use Rattle.command_answers.specs.declared.status.Status.{Status}
 use Rattle.command_answers.specs.declared.status.Status.TheVariants.{Done}

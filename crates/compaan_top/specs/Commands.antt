@@ -3,13 +3,7 @@ use Rattle.std.specs.Prelude.{◌≡◌, Bool, true, false, Option, Some, None}
 use Rattle.command_line.specs.declared.words.Command.{Command}
 use Rattle.command_line.specs.declared.words.Command.TheVariants.{Run, Seq, Net, Cert, Check, Deps, Vhdl, Load, Sim, Trim, Trace}
 use Rattle.command_line.specs.declared.words.Order.{Order}
-
--- the parts of a bundle that are read
-pub data Reads : Type 0 where
-  source_alone : Reads
-  source_and_data : Reads
-  source_and_certificate : Reads
-  nothing : Reads
+use Rattle.call_endings.specs.Reads.{Reads, source_alone, source_and_data, source_and_certificate, nothing}
 
 -- the parts of a bundle that a command reads: the source, the source and the data, the source and the certificate, or
 -- nothing

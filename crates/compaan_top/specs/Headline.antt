@@ -10,8 +10,10 @@ use Rattle.net_core.specs.declared.network.Network.{Network}
 use Rattle.sanlp.specs.declared.nest.Nest.{Nest}
 use Rattle.source_tree.specs.declared.cert.Cert.{Cert}
 use Rattle.std.specs.Io.KnownBytes.{Appends}
-use Rattle.compaan_top.specs.Answers.{Change}
-use Rattle.compaan_top.specs.Outcome.{Outcome, IsOutcome, bundle_limit}
+use Rattle.call_endings.specs.Changes.{Change}
+use Rattle.call_endings.specs.Outcomes.{Outcome}
+use Rattle.call_endings.specs.Reads.{bundle_limit}
+use Rattle.compaan_top.specs.Outcome.{IsOutcome}
 use Rattle.command_answers.specs.Source.{GivesWithinSize}
 use Rattle.command_answers.specs.declared.status.Status.{Status}
 use Rattle.command_answers.specs.declared.status.Status.TheVariants.{Done}

@@ -10,11 +10,14 @@ use Rattle.sanlp.specs.declared.nest.Nest.{Nest}
 use Rattle.loop_walk.specs.Counting.{counted}
 use Rattle.vhdl_text.specs.Refusal.{first_too_long}
 use Rattle.witness_plan.specs.declared.schedules.Policy.{Policy}
-use Rattle.compaan_top.specs.Answers.{Change, Ends, HasFault}
-use Rattle.compaan_top.specs.Commands.{Reads, source_alone, source_and_data, source_and_certificate, nothing, read_by, reads_of}
+use Rattle.call_endings.specs.Changes.{Change, HasFault}
+use Rattle.call_endings.specs.Outcomes.{Outcome}
+use Rattle.call_endings.specs.Reads.{Reads, source_alone, source_and_data, source_and_certificate, nothing, bundle_limit}
+use Rattle.compaan_top.specs.Answers.{Ends}
+use Rattle.compaan_top.specs.Commands.{read_by, reads_of}
 use Rattle.command_answers.specs.Describing.{planned_automata}
 use Rattle.command_answers.specs.Load.{load_limit}
-use Rattle.compaan_top.specs.Outcome.{Outcome, IsOutcome, bundle_limit}
+use Rattle.compaan_top.specs.Outcome.{IsOutcome}
 use Rattle.command_answers.specs.Run.{IsInputs}
 use Rattle.command_answers.specs.Source.{Gives}
 use Rattle.command_answers.specs.Statuses.{is_one_of}

@@ -3,7 +3,6 @@ pub mod Calls
 pub mod Certified
 pub mod Certifying
 pub mod Commands
-pub mod Complaints
 pub mod Headline
 pub mod Laws
 pub mod Outcome

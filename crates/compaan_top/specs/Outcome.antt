@@ -1,16 +1,17 @@
 -- What the program answers to its words and its bundle: one case for each cause, in the order in which they decide. Of the
 -- words it takes the order that they give, or None where they are refused.
-use Rattle.std.specs.Prelude.{◌≡◌, ◌≢◌, ◌≤◌, ◌<◌, ℕ, List, [], length, Option, Some, None, Result, Ok, Err}
+use Rattle.std.specs.Prelude.{◌≡◌, ◌≢◌, ◌≤◌, ◌<◌, ℕ, List, length, Option, Some, None, Result, Err}
 use Rattle.command_line.specs.declared.words.Command.{Command}
 use Rattle.command_line.specs.declared.words.Command.TheVariants.{Run, Seq, Net, Cert, Check, Deps, Vhdl, Load, Sim, Trim, Trace}
 use Rattle.command_line.specs.declared.words.Order.{Order}
 use Rattle.compaan_top.specs.Certifying.{PrintsCertificate}
 use Rattle.command_answers.specs.Checking.{Checks}
-use Rattle.compaan_top.specs.Commands.{nothing, reads_of}
+use Rattle.call_endings.specs.Outcomes.{Outcome, outcome_of}
+use Rattle.call_endings.specs.Reads.{bundle_limit, nothing}
+use Rattle.compaan_top.specs.Commands.{reads_of}
 use Rattle.command_answers.specs.Describing.{Describes}
 use Rattle.command_answers.specs.Load.{Loads}
 use Rattle.command_answers.specs.Printing.{Prints, network_text}
-use Rattle.compaan_top.specs.Complaints.{refusal_line, refusal_status}
 use Rattle.command_answers.specs.Replies.{Reply}
 use Rattle.command_answers.specs.Run.{Runs, run_text}
 use Rattle.command_answers.specs.Simulating.{simulation_text}
@@ -19,23 +20,6 @@ use Rattle.command_answers.specs.Tracing.{Traces}
 use Rattle.command_answers.specs.Trimming.{trimming_text}
 use Rattle.command_answers.specs.declared.refusal.Refusal.{Refusal}
 use Rattle.command_answers.specs.declared.refusal.Refusal.TheVariants.{Usage, TooLong}
-use Rattle.command_answers.specs.declared.status.Status.{Status}
-
--- a status, what is written on the output, and what on the complaint sink
-pub record Outcome : Type 0 where
-  pub status : Status
-  pub output : List ℕ
-  pub complaint : List ℕ
-
--- what a command comes to: the reply that it writes, or why it is refused
-abbrev pub outcome_of : Result Reply Refusal → Outcome
-outcome_of (Ok reply) = record { status = reply.status; output = reply.text; complaint = [] }
-outcome_of (Err refusal) =
-    record { status = refusal_status refusal; output = []; complaint = refusal_line refusal }
-
--- the most bytes that a bundle has
-abbrev pub bundle_limit : ℕ
-bundle_limit = 67_108_864
 
 -- what an order's command comes to on a bundle; `load` has none
 abbrev pub Performs : Command → Order → List ℕ → Result Reply Refusal → Type 0

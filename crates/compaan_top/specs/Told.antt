@@ -3,9 +3,10 @@ use Rattle.std.specs.Prelude.{◌≡◌, ◌≢◌, ℕ, List, [], Option, Some}
 use Rattle.command_answers.specs.declared.status.Status.{Status}
 use Rattle.command_answers.specs.declared.status.Status.TheVariants.{InputFailed, NoMemory, OutputFailed}
 use Rattle.command_line.specs.declared.words.Order.{Order}
-use Rattle.compaan_top.specs.Answers.{Change, WritesAll}
-use Rattle.compaan_top.specs.Commands.{Reads, source_alone, source_and_data, source_and_certificate, nothing}
-use Rattle.compaan_top.specs.Outcome.{Outcome, IsOutcome}
+use Rattle.call_endings.specs.Changes.{Change}
+use Rattle.call_endings.specs.Outcomes.{WritesAll, Outcome}
+use Rattle.call_endings.specs.Reads.{Reads, source_alone, source_and_data, source_and_certificate, nothing}
+use Rattle.compaan_top.specs.Outcome.{IsOutcome}
 
 -- the bundle is all that the source has left, and empty where nothing is read
 abbrev pub IsTold : Reads → Option (List ℕ) → List ℕ → Type 0

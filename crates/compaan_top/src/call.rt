@@ -2,54 +2,28 @@ ghost use Rattle.std.specs.Prelude.{◌≢◌, ◌≤◌, Option, Some, length, 
 ghost use Rattle.command_line.specs.Words.{order_of};
 ghost use Rattle.command_line.specs.declared.words.Command.TheVariants as command;
 ghost use Rattle.command_line.specs.declared.words.Order.{Order as WordOrder};
-ghost use Rattle.command_answers.specs.Judging.{Judges};
-ghost use Rattle.compaan_top.specs.Answers.{Change, Ends, change};
+ghost use Rattle.call_endings.specs.Changes.{Change, change};
+ghost use Rattle.call_endings.specs.Reads.{bundle_limit};
+ghost use Rattle.compaan_top.specs.Answers.{Ends};
 ghost use Rattle.compaan_top.specs.Calls.{IsCallOf};
 ghost use Rattle.compaan_top.specs.Commands.{WaitsForNobody, WaitsForThreads};
-ghost use Rattle.compaan_top.specs.Outcome.{bundle_limit};
-ghost use Rattle.compaan_top.specs.Planned.{IsCertificatePlanned, IsOrdered, IsPlanned, JudgesOrder, ReadsBundle};
+ghost use Rattle.compaan_top.specs.Planned.{IsCertificatePlanned, IsPlanned, JudgesOrder};
 
 use crate::certifying::print_certificate;
-use crate::complaint::{refusal_status, write_refusal};
 use crate::law::what_ends_is_a_call;
 use crate::telling::tell_dependences;
 use crate::writing::{status_of, write_text};
+use call_endings::{bundle_of, order_of, tell_stop};
 use cert_text::write_cert;
 use command_answers::{
-    Answer, CertificateAnswer, Refusal, Status, Stop, check_certificate, describe_network, load,
+    Answer, CertificateAnswer, Status, Stop, check_certificate, describe_network, load,
     print_network, run_by_clock, run_by_interpreter, run_by_network, trace_network, trim_network,
 };
-use command_line::{Command, Order, WordsError, read_words};
-use io_edge::{Gate, ReadError, Sink, Source, read_all};
+use command_line::{Command, Order};
+use io_edge::{Gate, Sink, Source};
 use std::alloc::Global;
 use std::sync::Wait;
 use std::thread::Threads;
-
-/// The most bytes that a bundle has.
-const BUNDLE_LIMIT: usize = 67_108_864;
-
-/// The order that the words give, or the refusal of them. Nothing is read or written.
-pub fn order_of(alloc: Global, words: &[String]) -> Result<Order, Stop>
-    ensures { Judges (IsOrdered (order_of (map string_bytes words.now))) result }
-{
-    match read_words(alloc, words) {
-        Ok(order) => Ok(order),
-        Err(WordsError::Words) => Err(Stop::Refused(Refusal::Usage)),
-        Err(WordsError::Memory) => Err(Stop::Memory),
-    }
-}
-
-/// The bundle that the source has left. It takes at most a byte past the limit of 67,108,864, and one with so many is refused.
-pub fn bundle_of<S: Source>(alloc: Global, input: &mut S) -> Result<Vec<u8>, Stop>
-    ensures { ReadsBundle (change S.left S.faults input.old input.new) result }
-{
-    match read_all(alloc, input, BUNDLE_LIMIT) {
-        Ok(bundle) => Ok(bundle),
-        Err(ReadError::TooLong) => Err(Stop::Refused(Refusal::TooLong)),
-        Err(ReadError::ReadFault) => Err(Stop::ReadFault),
-        Err(ReadError::Memory) => Err(Stop::Memory),
-    }
-}
 
 // What a command that waits for nobody comes to, but for `cert`, which has many texts.
 fn perform(alloc: Global, order: &Order, bundle: &[u8]) -> Result<Answer, Stop>
@@ -113,12 +87,7 @@ fn finish<K: Sink, E: Sink>(
             Ok(()) => status_of(&answer),
             Err(_) => Status::OutputFailed,
         },
-        Err(Stop::Refused(refusal)) => match write_refusal(&refusal, complaint) {
-            Ok(()) => refusal_status(&refusal),
-            Err(_) => Status::OutputFailed,
-        },
-        Err(Stop::ReadFault) => Status::InputFailed,
-        Err(Stop::Memory) => Status::NoMemory,
+        Err(stop) => tell_stop(stop, complaint),
     }
 }
 
@@ -138,7 +107,7 @@ fn finish_certificate<K: Sink, E: Sink>(
             Ok(()) => Status::Done,
             Err(_) => Status::OutputFailed,
         },
-        Err(stop) => finish(Err(stop), output, complaint),
+        Err(stop) => tell_stop(stop, complaint),
     }
 }
 
@@ -163,7 +132,7 @@ fn carry_out_quietly<S: Source, K: Sink, E: Sink>(
             }
             _ => finish(perform(alloc, order, &bundle), output, complaint),
         },
-        Err(stop) => finish(Err(stop), output, complaint),
+        Err(stop) => tell_stop(stop, complaint),
     }
 }
 
@@ -210,7 +179,7 @@ fn carry_out_by_threads<R: Threads + Wait + Sync, S: Source, K: Sink, E: Sink, G
                 complaint,
             )
         }
-        Err(stop) => finish(Err(stop), output, complaint),
+        Err(stop) => tell_stop(stop, complaint),
     }
 }
 
@@ -280,6 +249,6 @@ pub fn compaan<R: Threads + Wait + Sync, S: Source, K: Sink, E: Sink, G: Gate + 
     what_ends_is_a_call();
     match order_of(alloc, words) {
         Ok(order) => carry_out(rt, alloc, &order, input, output, complaint, gate),
-        Err(stop) => finish(Err(stop), output, complaint).number(),
+        Err(stop) => tell_stop(stop, complaint).number(),
     }
 }

@@ -5,15 +5,14 @@
 
 mod call;
 mod certifying;
-mod complaint;
 mod law;
+mod program;
 mod telling;
 mod writing;
 
-pub use call::{bundle_of, compaan, order_of, quiet};
-pub use command_answers::Status;
-pub use complaint::{refusal_status, write_refusal};
+pub use call::{compaan, quiet};
 pub use law::{
     calls_have_their_statuses, no_status_ends_every_call, status_is_determined,
     what_cert_writes_is_accepted, what_ends_is_a_call, what_fits_is_accepted,
 };
+pub use program::run_program;

@@ -2,7 +2,7 @@ ghost use Rattle.std.specs.Prelude.{◌≡◌};
 ghost use Rattle.vhdl_text.specs.VhdlText.{vhdl_text};
 ghost use Rattle.command_answers.specs.Replying.{reply_of};
 ghost use Rattle.command_answers.specs.Simulating.{clocked_text, clocks_line};
-ghost use Rattle.compaan_top.specs.Answers.{Writes, change};
+ghost use Rattle.call_endings.specs.Changes.{Writes, change};
 
 use array_data::write_answer;
 use command_answers::{Answer, ClockedAnswer, NodesAnswer, Status};

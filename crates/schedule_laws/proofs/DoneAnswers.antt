@@ -9,7 +9,8 @@ use Rattle.command_answers.specs.Replies.{Reply}
 use Rattle.command_answers.specs.declared.refusal.Refusal.{Refusal}
 use Rattle.command_answers.specs.declared.status.Status.TheVariants.{Done}
 use Rattle.command_line.specs.declared.words.Order.{Order}
-use Rattle.compaan_top.specs.Outcome.{Outcome, IsOutcome, Performs, bundle_refused, outcome_of, performed, words_refused}
+use Rattle.call_endings.specs.Outcomes.{Outcome, outcome_of}
+use Rattle.compaan_top.specs.Outcome.{IsOutcome, Performs, bundle_refused, performed, words_refused}
 use Rattle.compaan_top.proofs.Acceptance.{same_order, too_long}
 use Rattle.compaan_top.proofs.Statuses.{no_order}
 use Rattle.process_derive.specs.Derived.{net}

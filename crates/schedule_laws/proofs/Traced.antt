@@ -28,8 +28,9 @@ use Rattle.command_answers.specs.Tracing.{EndsNetwork, Traces, source_refused, t
 use Rattle.command_answers.specs.declared.refusal.Refusal.{Refusal}
 use Rattle.command_answers.specs.declared.status.Status.TheVariants.{Done}
 use Rattle.compaan_top.specs.Certified.{AgreeOn, StandsForPlanned}
-use Rattle.compaan_top.specs.Complaints.{refusal_status}
-use Rattle.compaan_top.specs.Outcome.{Outcome, IsOutcome, Performs, outcome_of}
+use Rattle.call_endings.specs.Complaints.{refusal_status}
+use Rattle.call_endings.specs.Outcomes.{Outcome, outcome_of}
+use Rattle.compaan_top.specs.Outcome.{IsOutcome, Performs}
 use Rattle.compaan_top.proofs.Acceptance.{TextIsRead, of_source, same_pair}
 use Rattle.compaan_top.proofs.OwnStatuses.{sized_refused}
 use Rattle.compaan_top.proofs.Statuses.{Alike, OneTree, sized_alike}

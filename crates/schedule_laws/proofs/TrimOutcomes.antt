@@ -20,8 +20,9 @@ use Rattle.command_answers.specs.declared.status.Status.TheVariants.{Done}
 use Rattle.command_line.specs.declared.words.Command.{Command}
 use Rattle.command_line.specs.declared.words.Command.TheVariants.{Trim}
 use Rattle.command_line.specs.declared.words.Order.{Order}
-use Rattle.compaan_top.specs.Complaints.{refusal_status}
-use Rattle.compaan_top.specs.Outcome.{Outcome, IsOutcome, Performs, outcome_of}
+use Rattle.call_endings.specs.Complaints.{refusal_status}
+use Rattle.call_endings.specs.Outcomes.{Outcome, outcome_of}
+use Rattle.compaan_top.specs.Outcome.{IsOutcome, Performs}
 use Rattle.compaan_top.proofs.Acceptance.{of_source}
 use Rattle.compaan_top.proofs.OwnStatuses.{sized_refused}
 use Rattle.compaan_top.proofs.Statuses.{Alike, OneTree, sized_alike}

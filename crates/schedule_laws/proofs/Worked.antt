@@ -11,7 +11,7 @@ use Rattle.net_core.specs.Rules.{tags}
 use Rattle.cap_trim.specs.Capacities.{with_room}
 use Rattle.command_answers.specs.declared.refusal.Refusal.TheVariants.{TooLong}
 use Rattle.command_line.specs.declared.words.Order.{Order}
-use Rattle.compaan_top.specs.Outcome.{outcome_of}
+use Rattle.call_endings.specs.Outcomes.{outcome_of}
 use Rattle.compaan_top.proofs.Acceptance.{too_long}
 use Rattle.schedule_laws.specs.Calls.{WritesRun}
 use Rattle.schedule_laws.specs.LeastCapacities.{NoneEndsBelow, WritesCapacities}

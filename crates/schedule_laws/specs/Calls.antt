@@ -6,7 +6,8 @@ use Rattle.command_line.specs.declared.words.Order.{Order}
 use Rattle.command_answers.specs.declared.status.Status.TheVariants.{Done}
 use Rattle.compaan_top.specs.Certified.{Accepts}
 use Rattle.compaan_top.specs.Headline.{accepted}
-use Rattle.compaan_top.specs.Outcome.{Outcome, IsOutcome}
+use Rattle.call_endings.specs.Outcomes.{Outcome}
+use Rattle.compaan_top.specs.Outcome.{IsOutcome}
 
 -- an order to `check` comes to `accepted` on a bundle, whose certificate part is this text
 pub record AcceptsText (order : Order) (bundle text : List ℕ) : Type 0 where

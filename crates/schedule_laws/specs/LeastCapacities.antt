@@ -4,7 +4,8 @@ use Rattle.cap_trim.specs.Capacities.{SticksBelow, with_room}
 use Rattle.command_answers.specs.declared.status.Status.TheVariants.{Done}
 use Rattle.command_line.specs.declared.words.Command.TheVariants.{Trim}
 use Rattle.command_line.specs.declared.words.Order.{Order}
-use Rattle.compaan_top.specs.Outcome.{Outcome, IsOutcome}
+use Rattle.call_endings.specs.Outcomes.{Outcome}
+use Rattle.compaan_top.specs.Outcome.{IsOutcome}
 use Rattle.net_core.specs.declared.network.Network.{Network}
 use Rattle.net_core.specs.Machine.{net_of}
 use Rattle.net_core.specs.Orders.{EndsAll}

@@ -6,7 +6,7 @@ ghost use Rattle.command_answers.specs.Source.{GivesWithinSize};
 ghost use Rattle.command_line.specs.declared.words.Order.{Order};
 ghost use Rattle.compaan_top.specs.Certified.{AgreeOn, Certifies, HasCertificate};
 ghost use Rattle.compaan_top.specs.Headline.{HasFittingCertificate};
-ghost use Rattle.compaan_top.specs.Outcome.{Outcome};
+ghost use Rattle.call_endings.specs.Outcomes.{Outcome};
 ghost use Rattle.net_checker.specs.Fits.{Fits};
 ghost use Rattle.net_core.specs.Machine.{net_of};
 ghost use Rattle.net_core.specs.Orders.{EndsAll};

@@ -2,7 +2,7 @@ ghost use Rattle.std.specs.Prelude.{◌≡◌, ℕ, List, Ok};
 ghost use Rattle.bundle.specs.Parts.{source_part};
 ghost use Rattle.command_answers.specs.Source.{GivesWithinSize};
 ghost use Rattle.command_line.specs.declared.words.Order.{Order};
-ghost use Rattle.compaan_top.specs.Outcome.{Outcome};
+ghost use Rattle.call_endings.specs.Outcomes.{Outcome};
 ghost use Rattle.trim_text.specs.TrimText.{trim_text};
 ghost use Rattle.witness_plan.specs.Schedules.{planned_network};
 ghost use Rattle.schedule_laws.specs.LeastCapacities.{AreLeast, WritesCapacities};

@@ -1,7 +1,7 @@
 -- How a call of the program on devices in memory ends.
 use Rattle.std.specs.Prelude.{◌≡◌, ◌<◌, ◌≤◌, ℕ, List, [], ◌∷◌, Some, codes}
 use Rattle.command_line.specs.Words.{order_of}
-use Rattle.compaan_top.specs.Answers.{Change}
+use Rattle.call_endings.specs.Changes.{Change}
 use Rattle.compaan_top.specs.Calls.{IsCallOf}
 use Rattle.io_edge.specs.InMemory.{SinkState}
 

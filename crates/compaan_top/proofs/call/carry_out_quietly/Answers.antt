@@ -1,3 +1,7 @@
+use Rattle.std.specs.Prelude.{Some}
+use Rattle.call_endings.proofs.Endings.{stopped}
+use Rattle.compaan_top.specs.Commands.{reads_of}
+use Rattle.compaan_top.specs.Outcome.{IsOutcome}
 use Rattle.compaan_top.proofs.Endings.{planned_certificate, planned_refusal_of_bundle, planned_work, quiet_reads}
 use Rattle.compaan_top.proofs.call.carry_out_quietly.Goals as goal
 
@@ -16,6 +20,6 @@ returns-in-Ok g c =
 
 pub returns : goal.returns
 returns g c =
-    c.finish-in-Err.ensures _ _
+    stopped (IsOutcome (Some c.args.order.now)) (reads_of c.args.order.now.command) _ _ _ _
     (planned_refusal_of_bundle c.args.order.now _ c.in-Err.stop
-    (quiet_reads c.args.order.now.command c.requires) c.in-Err.ensures)
+    (quiet_reads c.args.order.now.command c.requires) c.in-Err.ensures) c.tell_stop.ensures

@@ -1,36 +1,22 @@
 use Rattle.command_answers.specs.Replying.{reply_of}
-use Rattle.compaan_top.proofs.Endings.{answer_written, answer_cut_short, refusal_written, refusal_cut_short, ends_at_fault, ends_without_memory}
+use Rattle.call_endings.proofs.Endings.{answer_cut_short, answer_written, stopped}
+use Rattle.compaan_top.specs.Commands.{read_by}
+use Rattle.compaan_top.specs.Outcome.{IsOutcome}
 use Rattle.compaan_top.proofs.call.finish.Goals as goal
 
 pub returns-in-Ok-write_text : goal.returns-in-Ok-write_text
 returns-in-Ok-write_text g c = λ wanted input planned.
     let p = rw c.in-Ok.is at planned in
     rw c.status_of.ensures
-    (answer_written wanted input _ _ _
+    (answer_written (IsOutcome wanted) (read_by wanted) input _ _ _
     (reply_of c.in-Ok.answer) p.0 p.1 c.in-Ok-write_text.ensures.ok c.in-Ok-write_text.ensures.quiet)
 
 pub returns-in-Ok : goal.returns-in-Ok
 returns-in-Ok g c = λ wanted input planned.
     let p = rw c.in-Ok.is at planned in
-    answer_cut_short wanted input _ _ _ (reply_of c.in-Ok.answer) p.0 p.1 c.in-Err.ensures.front c.in-Err.ensures.cause
-
-pub returns-in-Ok-write_refusal : goal.returns-in-Ok-write_refusal
-returns-in-Ok-write_refusal g c = λ wanted input planned.
-    let p = rw (c.in-Err-Refused.is, c.in-Err-Refused.field-0-is) at planned in
-    rw c.refusal_status.ensures
-    (refusal_written wanted input _ _ _ c.in-Err-Refused.refusal p.0 p.1 c.in-Ok-write_refusal.ensures.ok
-    c.in-Ok-write_refusal.ensures.quiet)
-
-pub returns-in-Err-Refused : goal.returns-in-Err-Refused
-returns-in-Err-Refused g c = λ wanted input planned.
-    let p = rw (c.in-Err-Refused.is, c.in-Err-Refused.field-0-is) at planned in
-    refusal_cut_short wanted input _ _ _ c.in-Err-Refused.refusal p.0 p.1 c.in-Err-write_refusal.ensures.front
-    c.in-Err-write_refusal.ensures.cause
-
-pub returns-in-Err-ReadFault : goal.returns-in-Err-ReadFault
-returns-in-Err-ReadFault g c = λ wanted input planned. ends_at_fault wanted input _ _ _ _
-    (rw (c.in-Err-ReadFault.is, c.in-Err-ReadFault.field-0-is) at planned)
+    answer_cut_short (IsOutcome wanted) (read_by wanted) input _ _ _ (reply_of c.in-Ok.answer) p.0 p.1
+    c.in-Err-write_text.ensures.front c.in-Err-write_text.ensures.cause
 
 pub returns : goal.returns
-returns g c = λ wanted input planned. ends_without_memory wanted input _ _ _ _
-    (rw (c.in-Err-Memory.is, c.in-Err-Memory.field-0-is) at planned)
+returns g c = λ wanted input planned.
+    stopped (IsOutcome wanted) (read_by wanted) input _ _ _ (rw c.in-Err.is at planned) c.tell_stop.ensures

@@ -1,7 +1,7 @@
 use Rattle.std.proofs.Common.{Some, map, refl, subst}
 use Rattle.std.specs.Prelude.{string_bytes}
 use Rattle.command_line.specs.Words.{order_of}
-use Rattle.compaan_top.specs.Answers.{Change, change}
+use Rattle.call_endings.specs.Changes.{Change, change}
 use Rattle.compaan_top.specs.Calls.{IsCallOf}
 use Rattle.io_edge.specs.InMemory.{SinkState, SourceState}
 use Rattle.top_calls.specs.Ends.{change_of_sink}

@@ -1,4 +1,4 @@
-use Rattle.compaan_top.proofs.complaint.write_refusal_line.Goals as goal
+use Rattle.call_endings.proofs.complaint.write_refusal_line.Goals as goal
 
 pub returns-in-Script : goal.returns-in-Script
 returns-in-Script g c = rw c.in-Script.is (rw c.from.ensures at c.write_paired.ensures)

@@ -1,11 +1,12 @@
 ghost use Rattle.std.specs.Prelude.{◌≡◌, [], ◌∷◌, decimal};
 ghost use Rattle.text_out.specs.Wrote.{Wrote};
 ghost use Rattle.text_out.specs.Words.{line_text};
-ghost use Rattle.compaan_top.specs.Answers.{Writes, change};
-ghost use Rattle.compaan_top.specs.Complaints.{class_word as word_of_class, limit_word as word_of_limit, name_of, refusal_line, refusal_status, text_word as word_of_text};
+ghost use Rattle.call_endings.specs.Changes.{Writes, change};
+ghost use Rattle.call_endings.specs.Complaints.{class_word as word_of_class, limit_word as word_of_limit, name_of, refusal_line, refusal_status, text_word as word_of_text};
+ghost use Rattle.call_endings.specs.Stops.{Tells};
 ghost use Rattle.command_answers.specs.declared.refusal.Refusal.TheVariants.{Count};
 
-use command_answers::{ClassReason, LimitReason, Refusal, Status, TextReason};
+use command_answers::{ClassReason, LimitReason, Refusal, Status, Stop, TextReason};
 use io_edge::{Sink, WriteFault};
 use sanlp::ArrayDecl;
 use text_out::{TextWriter, Word, Writer, write_line};
@@ -150,4 +151,19 @@ pub fn write_refusal<K: Sink>(refusal: &Refusal, sink: &mut K) -> Result<(), Wri
     let mut out = Writer::new(sink);
     write_refusal_line(refusal, &mut out);
     out.finish()
+}
+
+/// Tells why the work stopped, and gives the status: a refusal on the complaint sink, and of a fault of the source or want of memory
+/// nothing. It takes no memory.
+pub fn tell_stop<E: Sink>(stop: Stop, complaint: &mut E) -> Status
+    ensures { Tells (change E.held E.faults complaint.old complaint.new) stop result }
+{
+    match stop {
+        Stop::Refused(refusal) => match write_refusal(&refusal, complaint) {
+            Ok(()) => refusal_status(&refusal),
+            Err(_) => Status::OutputFailed,
+        },
+        Stop::ReadFault => Status::InputFailed,
+        Stop::Memory => Status::NoMemory,
+    }
 }

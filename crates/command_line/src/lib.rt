@@ -6,4 +6,4 @@
 
 mod words;
 
-pub use words::{Command, Order, WordsError, read_words};
+pub use words::{Command, Order, WordsError, params_of, read_words};

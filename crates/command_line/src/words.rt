@@ -184,7 +184,9 @@ fn add_param(params: &mut Params, item: &[u8]) -> Result<(), WordsError>
     Ok(())
 }
 
-fn params_of(alloc: Global, items: &[&str]) -> Result<Params, WordsError>
+/// The values that items NAME=VALUE give to parameters, in their order. VALUE is an optional `-` and 1 to 18 decimal digits.
+/// `Words` comes exactly where an item isn't NAME=VALUE or gives a NAME again.
+pub fn params_of(alloc: Global, items: &[&str]) -> Result<Params, WordsError>
     ensures ok { IfOk result
         (λ params. params_with [] (map (λ item. item.now) items.now) ≡ Some params) }
     ensures refused { IsErrOf result WordsError.Words

@@ -1,3 +1,3 @@
 mod Designs
 mod Units
-mod Endings
+mod Planned

@@ -1,59 +1,53 @@
 -- How a call of the program `compaan_rtl` may end.
 --
--- Words, bundle, refusals and statuses are those of the program `compaan`, and so is what a call does to its source and its sinks.
--- Of the order that the words give the policy and the parameters are looked at, and not which command it names.
-use Rattle.std.specs.Prelude.{◌≡◌, ◌≤◌, ◌<◌, ◌+◌, ℕ, List, length, Option, Some, None, Result, Ok, Err}
-use Rattle.command_line.specs.declared.words.Order.{Order}
+-- The bundle, its refusals and the statuses are those of the program `compaan`, and so is what a call does to its source and its
+-- sinks. The words are this program's own, and so is the line that tells of words that are refused.
+use Rattle.std.specs.Prelude.{◌≡◌, ◌≤◌, ◌<◌, ℕ, List, [], ◌∷◌, length, codes, Option, Some, None, Result, Ok, Err}
+use Rattle.std.specs.Io.KnownBytes.{Appends}
+use Rattle.io_edge.specs.Causes.{AppendsFront}
+use Rattle.text_out.specs.Words.{line_text}
+use Rattle.rtl_line.specs.declared.words.Order.{Order}
 use Rattle.command_answers.specs.Replies.{Reply}
 use Rattle.command_answers.specs.Statuses.{status_number}
 use Rattle.command_answers.specs.declared.refusal.Refusal.{Refusal}
-use Rattle.command_answers.specs.declared.refusal.Refusal.TheVariants.{Usage, TooLong}
+use Rattle.command_answers.specs.declared.refusal.Refusal.TheVariants.{TooLong}
 use Rattle.command_answers.specs.declared.refusal.Stop.{Stop}
-use Rattle.command_answers.specs.declared.refusal.Stop.TheVariants.{Refused, ReadFault, Memory}
 use Rattle.command_answers.specs.declared.status.Status.{Status}
-use Rattle.command_answers.specs.declared.status.Status.TheVariants.{InputFailed, NoMemory, OutputFailed}
-use Rattle.compaan_top.specs.Answers.{Change, HasFault, IsQuiet, ReadsNothing, ReadsTo, TakesAtMost, WritesAll, WritesFront, WritesNothing}
-use Rattle.compaan_top.specs.Outcome.{Outcome, bundle_limit, outcome_of}
-use Rattle.rtl_answers.specs.Designing.{Designs, as_design_reply}
-use Rattle.rtl_answers.specs.declared.design.Design.{Design}
+use Rattle.command_answers.specs.declared.status.Status.TheVariants.{OutputFailed, WordsRefused}
+use Rattle.call_endings.specs.Changes.{Change, HasFault, IsQuiet}
+use Rattle.call_endings.specs.Endings.{EndsBy}
+use Rattle.call_endings.specs.Outcomes.{Outcome, outcome_of}
+use Rattle.call_endings.specs.Planned.{IsStopped, ReadsAndJudges}
+use Rattle.call_endings.specs.Reads.{Reads, source_alone, nothing, bundle_limit}
+use Rattle.rtl_answers.specs.Answering.{Answers, reply_of}
+use Rattle.rtl_answers.specs.declared.answer.Answer.{Answer}
 
--- The words are refused, the bundle is too long, or a design is made or refused.
+-- the line that tells of words that are refused
+abbrev pub usage_line : List ℕ
+usage_line =
+    line_text
+    (codes "usage: compaan_rtl [NAME=VALUE].. [--policy seq|down|least] [--clocks]" ∷ [])
+
+abbrev pub usage_outcome : Outcome
+usage_outcome = record { status = WordsRefused; output = []; complaint = usage_line }
+
+-- The words are refused, the bundle is too long, or what the order comes to is written or refused.
 pub data IsDesignOutcome (wanted : Option Order) (bundle : List ℕ) : Outcome → Type 0 where
-  words_refused : wanted ≡ None → IsDesignOutcome wanted bundle (outcome_of (Err Usage))
+  words_refused : wanted ≡ None → IsDesignOutcome wanted bundle usage_outcome
   bundle_refused : (order : Order) → wanted ≡ Some order → bundle_limit < length bundle
       → IsDesignOutcome wanted bundle (outcome_of (Err TooLong))
   performed : (order : Order) (answer : Result Reply Refusal) → wanted ≡ Some order
-      → length bundle ≤ bundle_limit → Designs order.policy order.params bundle answer
+      → length bundle ≤ bundle_limit → Answers order bundle answer
       → IsDesignOutcome wanted bundle (outcome_of answer)
 
 -- where the words are refused nothing is read, and else a bundle
-abbrev pub IsReadFor : Option Order → Change → List ℕ → Type 0
-IsReadFor None = ReadsNothing
-IsReadFor (Some order) = ReadsTo
+abbrev pub design_reads : Option Order → Reads
+design_reads None = nothing
+design_reads (Some order) = source_alone
 
--- the most bytes that are taken of the source
-abbrev pub most_read : Option Order → ℕ
-most_read None = 0
-most_read (Some order) = bundle_limit + 1
-
--- How a call may end, and its status, where this order is wanted, or None where the words are refused: it wrote nothing, for
--- want of memory or since the source had a fault, or it wrote the outcome of the order and the bundle, or a sink had a fault
--- while it did.
-pub data EndsDesign (wanted : Option Order) (input output complaint : Change)
-    : Status → Type 0 where
-  no_memory : IsQuiet input → TakesAtMost input (most_read wanted) → WritesNothing output complaint
-      → EndsDesign wanted input output complaint NoMemory
-  read_fault : (order : Order) → wanted ≡ Some order → HasFault input
-      → TakesAtMost input bundle_limit
-      → WritesNothing output complaint → EndsDesign wanted input output complaint InputFailed
-  written : (bundle : List ℕ) (outcome : Outcome) → IsQuiet input → IsReadFor wanted input bundle
-      → IsDesignOutcome wanted bundle outcome
-      → WritesAll outcome output complaint
-      → EndsDesign wanted input output complaint outcome.status
-  cut_short : (bundle : List ℕ) (outcome : Outcome) → IsQuiet input → IsReadFor wanted input bundle
-      → IsDesignOutcome wanted bundle outcome
-      → WritesFront outcome output complaint
-      → EndsDesign wanted input output complaint OutputFailed
+-- how a call may end, and its status, where this order is wanted, or None where the words are refused
+abbrev pub EndsDesign : Option Order → Change → Change → Change → Status → Type 0
+EndsDesign wanted = EndsBy (IsDesignOutcome wanted) (design_reads wanted)
 
 -- A call for this order, or with None for words that are refused, ended so, and answered the number of its status.
 pub record IsDesignCallOf (wanted : Option Order) (input output complaint : Change) (number : ℕ)
@@ -62,20 +56,17 @@ pub record IsDesignCallOf (wanted : Option Order) (input output complaint : Chan
   pub is_number : number ≡ status_number status
   pub ends : EndsDesign wanted input output complaint status
 
--- What reading the words and the input and working on them comes to, before anything is written
+-- The line was written, or the sink had a fault and gained a front of it.
+pub data TellsUsage (complaint : Change) : Status → Type 0 where
+  usage_told : Appends complaint.old complaint.new usage_line → IsQuiet complaint
+      → TellsUsage complaint WordsRefused
+  usage_cut_short : AppendsFront complaint.old complaint.new usage_line → HasFault complaint
+      → TellsUsage complaint OutputFailed
 
--- the input was read, and the answer is that of the order and of what was read
-abbrev pub ReadsAndDesigns : Option Order → Change → Result Reply Refusal → Type 0
-ReadsAndDesigns wanted input answer =
-    (bundle : List ℕ) × IsReadFor wanted input bundle
-    × IsDesignOutcome wanted bundle (outcome_of answer)
-
-abbrev pub IsDesignPlanned : Option Order → Change → Result Design Stop → Type 0
-IsDesignPlanned wanted input (Ok design) =
-    IsQuiet input × ReadsAndDesigns wanted input (as_design_reply (Ok design))
-IsDesignPlanned wanted input (Err (Refused refusal)) =
-    IsQuiet input × ReadsAndDesigns wanted input (Err refusal)
-IsDesignPlanned wanted input (Err ReadFault) =
-    (order : Order) × (wanted ≡ Some order) × HasFault input × TakesAtMost input bundle_limit
-IsDesignPlanned wanted input (Err Memory) =
-    IsQuiet input × TakesAtMost input (most_read wanted)
+-- the input was read, and the answer is that of the order and of what was read; or the work stopped
+abbrev pub IsDesignPlanned : Order → Change → Result Answer Stop → Type 0
+IsDesignPlanned order input (Ok answer) =
+    IsQuiet input
+    × ReadsAndJudges (IsDesignOutcome (Some order)) source_alone input (Ok (reply_of answer))
+IsDesignPlanned order input (Err stop) =
+    IsStopped (IsDesignOutcome (Some order)) source_alone input stop

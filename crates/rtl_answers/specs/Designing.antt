@@ -1,17 +1,16 @@
--- What the program `compaan_rtl` comes to on a bundle: one case for each cause, in the order in which they decide.
+-- What a design of a bundle's source comes to: one case for each cause, in the order in which they decide.
 use Rattle.std.specs.Prelude.{◌≡◌, ℕ, ℤ, Bool, nat_lt, List, length, Option, Some, None, Result, Ok, Err}
 use Rattle.std.specs.List.{find}
 use Rattle.bundle.specs.Parts.{source_part}
 use Rattle.sanlp.specs.declared.nest.Nest.{Nest}
-use Rattle.witness_plan.specs.Schedules.{planned_network}
-use Rattle.witness_plan.specs.declared.schedules.Policy.{Policy}
+use Rattle.rtl_line.specs.declared.words.Policy.{Policy}
 use Rattle.unit_text.specs.declared.unit.Unit.{Unit}
 use Rattle.rtl_text.specs.Designs.{AreUnitsOf, IsDesignOf}
-use Rattle.rtl_text.specs.Networks.{rtl_text}
 use Rattle.command_answers.specs.Replies.{Reply, done}
 use Rattle.command_answers.specs.Source.{GivesWithinSize}
 use Rattle.command_answers.specs.declared.refusal.Refusal.{Refusal}
 use Rattle.command_answers.specs.declared.refusal.Refusal.TheVariants.{Script}
+use Rattle.rtl_answers.specs.Networks.{network_for}
 use Rattle.rtl_answers.specs.declared.design.Design.{Design}
 
 -- the control of a process has more than 65,536 instructions
@@ -24,23 +23,18 @@ first_with_long_control units = find has_long_control units
 abbrev pub unit_refusal : Unit → Refusal
 unit_refusal unit = Script unit.auto.process (length unit.control.instructions)
 
--- the hardware of a nest's network, with the capacities that its schedule needs; or a control is too long
+-- the hardware of a nest's network, with the capacities that are wanted; or a control is too long
 abbrev pub HasDesign : Policy → Nest → Result Design Refusal → Type 0
 HasDesign policy nest (Ok design) =
-    (design.nest ≡ nest) × (design.network ≡ planned_network nest policy)
-    × AreUnitsOf nest (planned_network nest policy) design.units
+    (design.nest ≡ nest) × (design.network ≡ network_for policy nest)
+    × AreUnitsOf nest (network_for policy nest) design.units
     × (first_with_long_control design.units ≡ None)
 HasDesign policy nest (Err refusal) =
-    (units : List Unit) × (unit : Unit) × AreUnitsOf nest (planned_network nest policy) units
+    (units : List Unit) × (unit : Unit) × AreUnitsOf nest (network_for policy nest) units
     × (first_with_long_control units ≡ Some unit) × (refusal ≡ unit_refusal unit)
 
--- a design as the reply that it is, what is written of it with its status, or a refusal
-abbrev pub as_design_reply : Result Design Refusal → Result Reply Refusal
-as_design_reply (Ok design) = Ok (done (rtl_text design.nest design.network design.units))
-as_design_reply (Err refusal) = Err refusal
-
 -- The source gives no nest within the limit, the control of a process is too long, or a design is written of the nest's network
--- with the capacities that the policy's schedule needs.
+-- with the capacities that are wanted.
 --
 -- Which blocks a script is kept as is free, so where a process has more than 65,536 events both a design and the refusal may be
 -- right; where none has, there is no refusal. The sequencers of loop values have no limit.
@@ -50,11 +44,11 @@ pub data Designs (policy : Policy) (params : List (List ℕ × ℤ))
       → Designs policy params bundle (Err refusal)
   script_refused : (nest : Nest) (units : List Unit) (unit : Unit)
       → GivesWithinSize (source_part bundle) params (Ok nest)
-      → AreUnitsOf nest (planned_network nest policy) units
+      → AreUnitsOf nest (network_for policy nest) units
       → first_with_long_control units ≡ Some unit
       → Designs policy params bundle (Err (unit_refusal unit))
   designed : (nest : Nest) (text : List ℕ)
       → GivesWithinSize (source_part bundle) params (Ok nest)
-      → (design : IsDesignOf nest (planned_network nest policy) text)
+      → (design : IsDesignOf nest (network_for policy nest) text)
       → first_with_long_control design.units ≡ None
       → Designs policy params bundle (Ok (done text))

@@ -1,2 +1,5 @@
+pub mod Networks
 pub mod Designing
+pub mod Clocking
+pub mod Answering
 pub mod Calls

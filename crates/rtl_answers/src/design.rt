@@ -6,8 +6,11 @@ ghost use Rattle.sanlp.specs.Points.{points_of};
 ghost use Rattle.sanlp.specs.Size.{SizeIsOk};
 ghost use Rattle.rtl_text.specs.Designs.{AreUnitsOf};
 ghost use Rattle.command_answers.specs.Judging.{Judges};
-ghost use Rattle.rtl_answers.specs.Designing.{Designs, HasDesign, as_design_reply, first_with_long_control, has_long_control as has_long, unit_refusal};
+ghost use Rattle.rtl_answers.specs.Answering.{as_reply};
+ghost use Rattle.rtl_answers.specs.Designing.{Designs, HasDesign, first_with_long_control, has_long_control as has_long, unit_refusal};
 
+use crate::answer::Answer;
+use crate::networks::network_for;
 use bundle::parts_of;
 use command_answers::{Refusal, Stop, sized_nest};
 use loop_class::Params;
@@ -15,11 +18,10 @@ use loop_walk::points;
 use net_core::Network;
 use node_automata::automaton;
 use plain_data::Items;
+use rtl_line::Policy;
 use sanlp::{Nest, Points};
 use std::alloc::{AllocError, Global};
-use swept_net::compile_network;
 use unit_text::Unit;
-use witness_plan::Policy;
 
 /// The most instructions of a process's control.
 const MOST_INSTRUCTIONS: usize = 65_536;
@@ -79,13 +81,13 @@ fn refusal_of(unit: &Unit) -> Refusal
     Refusal::Script(unit.auto.process, unit.control.instructions.len() as u64)
 }
 
-// The design of a nest's network, with the capacities that the policy's schedule needs.
+// The design of a nest's network, with the capacities that are wanted.
 fn design_of(alloc: Global, policy: Policy, nest: Nest) -> Result<Design, Stop>
     requires { SizeIsOk nest }
     ensures { Judges (HasDesign policy nest) result }
 {
-    let network = compile_network(alloc, &nest, policy)?;
     let points = points(alloc, &nest)?;
+    let network = network_for(alloc, policy, &nest, &points)?;
     let units = units_of(alloc, &nest, &points, &network)?;
     if let Some(unit) = with_long_control(units.as_slice()) {
         return Err(Stop::Refused(refusal_of(unit)));
@@ -101,17 +103,18 @@ fn design_of(alloc: Global, policy: Policy, nest: Nest) -> Result<Design, Stop>
 ///
 /// `Refusal::Script` comes where a process's control has more than 65,536 instructions, for the first such process: the number told
 /// is that of its control's instructions, and not of its events. The sequencers of loop values have no limit.
-pub fn design_network(
+pub(crate) fn design_network(
     alloc: Global,
     policy: Policy,
     params: &Params,
     bundle: &[u8],
-) -> Result<Design, Stop>
+) -> Result<Answer, Stop>
     requires { length bundle.now < 2 ^ 32 }
     ensures { Judges
-        (λ answer. Designs policy params.now bundle.now (as_design_reply answer)) result }
+        (λ answer. Designs policy params.now bundle.now (as_reply answer)) result }
 {
     let parts = parts_of(bundle);
     let nest = sized_nest(alloc, parts.source, params)?;
-    design_of(alloc, policy, nest)
+    let design = design_of(alloc, policy, nest)?;
+    Ok(Answer::Design(design))
 }

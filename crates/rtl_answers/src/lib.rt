@@ -1,11 +1,18 @@
-//! The program that writes a whole design: its words, its input and its two outputs in, its status out.
+//! The program that writes a whole design or its clocks: its words, its input and its two outputs in, its status out.
 //!
 //! Between two calls, or from one step of the main loop to the next: the units made so far are those of the first processes, and
 //! nothing is written before all is decided.
 #![tactic(auto)]
 
+mod answer;
 mod call;
+mod clocks;
 mod design;
+mod networks;
+mod program;
 
+pub use answer::Answer;
 pub use call::compaan_rtl;
-pub use design::{Design, design_network};
+pub use clocks::Clocks;
+pub use design::Design;
+pub use program::run_design_program;

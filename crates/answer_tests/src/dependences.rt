@@ -86,15 +86,14 @@ static TOLD: [Call; 13] = [
         read 1 0\ntree\nw 0 1\nm 2 0\n\
         end\n",
     ),
-    // where 2 divides the loop value of the reader, its quotient q is that of the writer, and else nobody wrote the cell; the two
-    // tests between, whether q >= 0 and N - 1 - q >= 0, hold at each turn
+    // where 2 divides the loop value of the reader, its quotient is that of the writer, and else nobody wrote the cell
     (
         &["deps", "N=3"],
         EVEN_CELLS,
         0,
         b"deps 1\n\
         read 1 0\ntree\nw 0 1\nm 0 1\n\
-        read 2 0\ntree\nd 2 0 1\nt 0 0 1\nt 2 0 -1\nw 1 1\nm 0 0 1\nx\nx\nz\n\
+        read 2 0\ntree\nd 2 0 1\nw 1 1\nm 0 0 1\nz\n\
         read 3 0\ntree\nw 2 1\nm 0 1\n\
         end\n",
     ),
@@ -104,18 +103,18 @@ static TOLD: [Call; 13] = [
         0,
         b"deps 1\n\
         read 1 0\ntree\nw 0 1\nm 0 1\n\
-        read 2 0\ntree\nd 2 0 1\nt 0 0 1\nt 999999999 0 -1\nw 1 1\nm 0 0 1\nx\nx\nz\n\
+        read 2 0\ntree\nd 2 0 1\nw 1 1\nm 0 0 1\nz\n\
         read 3 0\ntree\nw 2 1\nm 0 1\n\
         end\n",
     ),
-    // the same with a step, where the test is whether N - 1 - 2 * q >= 0
+    // the same with a step
     (
         &["deps", "N=5"],
         b"param N; in x[N]; out y[N]; for (i = 0; i < N; i += 2) y[i] = x[i];",
         0,
         b"deps 1\n\
         read 1 0\ntree\nw 0 1\nm 0 2\n\
-        read 2 0\ntree\nd 2 0 1\nt 0 0 1\nt 2 0 -1\nw 1 1\nm 0 0 1\nx\nx\nz\n\
+        read 2 0\ntree\nd 2 0 1\nw 1 1\nm 0 0 1\nz\n\
         end\n",
     ),
 ];

@@ -387,6 +387,11 @@ const EVEN: &[u8] = b"param N; in x[N]; out y[N], z[N]; var a[2 * N]; \
     for (i = 0; i < N; i++) a[2 * i] = x[i]; \
     for (i = 0; i < N; i++) { y[i] = a[2 * i]; z[i] = a[2 * i + 1]; }";
 
+// A read of cells at odd places, of which every fourth is written, from the first on.
+const FOURTH: &[u8] = b"param N; in x[N]; out y[N]; var a[4 * N]; \
+    for (i = 0; i < N; i++) a[4 * i] = x[i]; \
+    for (i = 0; i < N; i++) y[i] = a[2 * i + 1];";
+
 fn is_dead(tree: &Tree) -> bool {
     match tree {
         Tree::Dead(_) => true,
@@ -417,12 +422,14 @@ fn test_counts(tree: &Tree) -> (usize, usize) {
 }
 
 // Sources, a statement, a read, and the counts of its tree.
-static TESTS: [(&[u8], u32, u32, (usize, usize)); 3] = [
+static TESTS: [(&[u8], u32, u32, (usize, usize)); 4] = [
     (STRIDED, 2, 0, (1, 1)),
     // it always divides
     (EVEN, 2, 0, (1, 0)),
     // it never does
     (EVEN, 3, 0, (0, 0)),
+    // it never does, since the form is odd
+    (FOURTH, 2, 0, (0, 0)),
 ];
 
 #[test]
@@ -433,6 +440,37 @@ fn a_test_that_its_form_decides_has_one_side(rt: HostRuntime) -> Result<(), Fail
         let counts = test_counts(&tree);
         drop(tree);
         assert!(rt; counts == *wanted);
+    }
+    Ok(())
+}
+
+fn node_count(tree: &Tree) -> usize {
+    match tree {
+        Tree::Test(_, above, below) => node_count(above.get())
+            .saturating_add(node_count(below.get()))
+            .saturating_add(1),
+        Tree::Divides(_, _, above, below) => node_count(above.get())
+            .saturating_add(node_count(below.get()))
+            .saturating_add(1),
+        _ => 1,
+    }
+}
+
+// Sources, a statement, a read, and the nodes of its tree: the test of divisibility, and a leaf on each side.
+static SIZES: [i64; 3] = [1, 5, 1_000_000_000];
+
+static THREE: [(&[u8], u32, u32); 3] = [(STRIDED, 2, 0), (EVEN, 2, 0), (STEPPED, 2, 0)];
+
+#[test]
+fn what_bounds_tell_of_a_quotient_is_not_asked(rt: HostRuntime) -> Result<(), Fail> {
+    for n in &SIZES {
+        for (source, statement, read) in &THREE {
+            let nest = nest(rt.alloc(), source, *n)?;
+            let tree = joined(rt.alloc(), &nest, *statement, *read)?;
+            let count = node_count(&tree);
+            drop(tree);
+            assert!(rt; count == 3);
+        }
     }
     Ok(())
 }

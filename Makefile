@@ -32,8 +32,8 @@ report: ## the pages of ./compaan report in headless Chromium
 edits: ## whether each edit of the crates can still be applied
 	$T/edits.py check
 
-hardware: ## the networks of the examples in GHDL, and whether planted faults are told
-	$T/hardware/simulate.py && $T/hardware/faults.py
+hardware: ## the networks of the examples in GHDL, in both texts, and whether planted faults are told
+	$T/hardware/simulate.py && $T/hardware/designs.py && $T/hardware/faults.py
 
 hostile: ## what the program asks for, failing streams, refused memory, the limits, random programs
 	$T/hostile/calls.py && $T/hostile/devices.py && $T/hostile/memory.py && $T/hostile/limits.py && $T/hostile/fuzz.py

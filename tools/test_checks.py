@@ -4,9 +4,9 @@
 usage: tools/test_checks.py [--compaan PROGRAM] [NAME]..      (NAME: faults whose check or text has this in it; all where none is named)
 
 Most faults are a program that passes the built one's answers on but for one, in which a text is another; others are a program that looks at
-no errors or that always ends with 10, and a copy of the repository in which a line is another. The checks that want GHDL have
-tools/hardware/faults.py for this; the tables of bench/, layers.py and gate.py judge nothing. Prints a row for each fault, and fails where one
-isn't told. It takes some minutes.
+no errors or that always ends with 10, and a copy of the repository in which a line is another. For the simulations by GHDL
+tools/hardware/faults.py does more of this; the tables of bench/, layers.py and gate.py judge nothing. Prints a row for each fault, and fails
+where one isn't told. It takes some minutes.
 """
 from __future__ import annotations
 
@@ -155,6 +155,7 @@ def faults() -> Iterator[Fault]:
         ("PROOFS.md", "| proofs | 1", "| proofs | 2"),
         ("VHDL.md", "| `fir` | N=8 T=3 | ", "| `fir` | N=8 T=3 | 1"),
         ("CONTRIBUTING.md", "| `affine_core` |", "| `affine_cores` |"),
+        ("RTL.md", "| 78 | 230 | 227 | equal |", "| 77 | 230 | 227 | equal |"),
         ("layers.svg", "<rect", "<rect "),
     ):
         yield Fault("docs/pages.py", [], f"another {page}", changed(f"docs/{page}", old, new, ("docs",)))
@@ -170,6 +171,29 @@ def faults() -> Iterator[Fault]:
         yield Fault("check_report.py", ["fir"], "a page without a head", page)
     else:
         print("there is no chromium, so no fault is planted for check_report.py", file=sys.stderr)
+    if shutil.which("ghdl"):
+        few = ["--policy", "down", "running_sum"]
+        kernel = ["examples/running_sum.loop", "N=4"]
+        for check, words in (
+            ("hardware/simulate.py", few),
+            ("hardware/designs.py", ["--std", "93", *few]),
+            ("hardware/synthesize.py", ["--text", "rtl", *few]),
+            ("hardware/large.py", ["--quick", "sobel"]),
+            ("../hardware/frames", kernel),
+            ("../hardware/simulate", kernel),
+        ):
+            yield Fault(check, words, "sim: another number of clocks", spoiled("sim", rb"clocks \d", b"clocks 9"))
+        for check, words in (
+            ("hardware/synthesize.py", ["--text", "rtl", *few]),
+            ("../hardware/frames", kernel),
+            ("../hardware/simulate", kernel),
+            ("../hardware/synthesize", ["--text", "rtl", *kernel]),
+        ):
+            yield Fault(check, words, "seq: another value", spoiled("seq", rb",1", b",2"))
+    else:
+        print("there is no GHDL, so no fault is planted for what is simulated", file=sys.stderr)
+    other_slot = spoiled("vhdl", rb"3 => 0, 4 => 1, 5", b"3 => 0, 4 => 2, 5")
+    yield Fault("hardware/folds.py", ["--quick", "transpose"], "vhdl: another slot", other_slot)
     yield Fault("check_c.py", ["gemm"], "run: another value", spoiled("run", rb",", b",1"))
     yield Fault("check_isl.py", FEW, "deps: another writer", spoiled("deps", rb"(?m)^w 0 ", b"w 1 "))
     yield Fault("check_isl.py", FEW, "deps: another test", spoiled("deps", rb"(?m)^t (-?\d+) ", rb"t \g<1>1 "))

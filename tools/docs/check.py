@@ -50,7 +50,7 @@ STATUSES = {"usage": 2, "bundle": 5, "text": 6, "class": 7, "limit": 8, "data": 
 LIMITS = (
     ("loop_lex/src/token.rt", "MAX_TOKENS", "docs/LANGUAGE.md docs/SECURITY.md"),
     ("loop_walk/src/count.rt", "SIZE_LIMIT", "README.md docs/LANGUAGE.md docs/SECURITY.md"),
-    ("compaan_top/src/call.rt", "BUNDLE_LIMIT", "docs/COMMANDS.md docs/LANGUAGE.md docs/CERTIFICATES.md docs/SECURITY.md"),
+    ("call_endings/src/reading.rt", "BUNDLE_LIMIT", "docs/COMMANDS.md docs/LANGUAGE.md docs/CERTIFICATES.md docs/SECURITY.md"),
     ("cert_text/src/kept.rt", "MOST_EVENTS", "docs/CERTIFICATES.md docs/SECURITY.md"),
     ("cert_lines/src/lines.rt", "NESTING_LIMIT", "docs/CERTIFICATES.md docs/SECURITY.md"),
     ("cell_rows/src/places.rt", "ROW_LIMIT", "docs/DECISIONS.md docs/SECURITY.md"),

@@ -5,7 +5,8 @@ usage: tools/docs/pages.py [--program]             compares each part with its p
                                                    there is one. With --program also what the built program prints
        tools/docs/pages.py [--program] --write     puts them into their pages
        tools/docs/pages.py --printed NAME FILE     puts what a script of measures printed into its page: measures of tools/bench/all.py,
-                                                   limits of sections of tools/hostile/limits.py
+                                                   limits of sections of tools/hostile/limits.py, designs, synthesis, large and folds of
+                                                   the scripts that bear these names in tools/hardware, parts of hardware/synthesize
        tools/docs/pages.py --sentences             lists the definitions whose comment lacks, or tells nothing by itself
 
 A part stands between a line `<!-- tools/docs/pages.py: NAME -->` and a line `<!-- end -->`:
@@ -21,6 +22,8 @@ clocks       the clocks of each example, as they stand beside its answer
 aims         what the table of measures says beside the aims
 capacities   of each example the sum of the capacities and the greatest one, by each policy and by trim: by the program
 measures, limits    tables of time and memory, which nothing compares
+designs             of each example the sizes of its design and the clocks, which are compared with those beside its answer
+synthesis, parts, large, folds     tables of what is made of designs, which nothing compares
 
 The picture of the layers, docs/layers.svg, and the crates and numbers of edits in the table of docs/CONTRIBUTING.md, which tools/gate.py
 prints, are compared too.
@@ -53,8 +56,8 @@ cap_trim.Capacities.trimmed_network_below cap_trim.Capacities.capacity_list cap_
 cert_text.CertText.folded_text cert_text.Folding.Folded cert_text.Folding.cert_of cert_text.Folding.network_of cert_text.StandsFor.IsShort
 cert_text.Stretches.stretch_blocks channel_plan.Tokens.is_used channel_plan.Tokens.turns_used channel_plan.Tokens.uses_of
 clock_sim.Clocks.clocked_run command_answers.Source.Gives command_answers.Source.GivesWithinSize
-compaan_top.Answers.ReadsTo compaan_top.Commands.read_by compaan_top.Commands.reads_of compaan_top.Complaints.refusal_line
-compaan_top.Complaints.refusal_status compaan_top.Headline.HasFittingCertificate compaan_top.Headline.HasSoundCertificate
+call_endings.Endings.EndsBy call_endings.Reads.ReadsTo compaan_top.Commands.read_by compaan_top.Commands.reads_of call_endings.Complaints.refusal_line
+call_endings.Complaints.refusal_status compaan_top.Headline.HasFittingCertificate compaan_top.Headline.HasSoundCertificate
 compaan_top.Headline.IsAcceptable compaan_top.Laws.IsDone compaan_top.Laws.IsValid compaan_top.Outcome.IsOutcome compaan_top.Told.ComesTo
 compaan_top.Told.IsTold deps_text.Dependences.HasTree
 deps_text.DepsText.TellsDependences difference_graphs.Systems.later_systems difference_graphs.Systems.none_systems difference_graphs.Systems.place_systems
@@ -285,6 +288,8 @@ PARTS: dict[str, tuple[str, Callable[[str], str]]] = {
     "aims": ("docs/MEASURES.md", aims),
     "clocks": ("docs/VHDL.md", clocks),
 }
+# The tables of measures, each with its page.
+TABLES = {"measures": "docs/MEASURES.md", **dict.fromkeys(("designs", "synthesis", "parts", "large", "folds"), "docs/RTL.md")}
 # What the program prints into a page.
 BY_PROGRAM: dict[str, tuple[str, Callable[[str], str]]] = {"capacities": ("docs/NETWORK.md", capacities)}
 
@@ -322,8 +327,8 @@ def write(program: str | None) -> None:
 
 def printed(name: str, text: str) -> None:
     """Puts what a script of measures printed into its page."""
-    if name == "measures":
-        put(name, TOP / "docs" / "MEASURES.md", "".join(f"{it}\n" for it in text.splitlines() if it.startswith("|")))
+    if name in TABLES:
+        put(name, TOP / TABLES[name], "".join(f"{it}\n" for it in text.splitlines() if it.startswith("|")))
         return
     put("limits", TOP / "docs" / "SECURITY.md", limits(text))
 
@@ -379,6 +384,24 @@ def other_layers() -> Iterator[Difference]:
     yield "printed parts", "docs/layers.svg", "" if is_drawn else "isn't what tools/docs/layers.py --svg prints"
 
 
+def other_designs() -> Iterator[Difference]:
+    """Whether the table of designs has a row for each example, which is equal and has the parameters and the clocks that stand beside its
+    answer."""
+    lines = [it.strip("| ").split(" | ") for it in part_of(read(TOP / TABLES["designs"]), "designs").splitlines()]
+    titles, rows = lines[0], lines[2:]
+    places = [titles.index(it) for it in ("Example", "Parameters", "Policy", "Clocks of a frame", "Arrays")]
+    known = {it.name: it for it in examples()}
+    for cells in rows:
+        name, items, policy, clocks, arrays = (cells[it].strip("`") for it in places)
+        example = known.get(name)
+        counted = dict(line.split() for line in example.bytes_of(".clocks").decode().splitlines()) if example else {}
+        is_same = example and (items.split(), clocks, arrays) == (example.items, counted.get(policy), "equal")
+        shown = "" if is_same else f"the row of {name} in the table of designs has other parameters or clocks"
+        yield "printed parts", TABLES["designs"], shown
+    lacking = set(known) - {cells[places[0]].strip("`") for cells in rows}
+    yield "printed parts", TABLES["designs"], f"the table of designs lacks {', '.join(sorted(lacking))}" if lacking else ""
+
+
 def other_crates() -> Iterator[Difference]:
     """Whether the table of the gate has the crates that there are, each with its number of edits."""
     page = read(TOP / "docs" / "CONTRIBUTING.md")
@@ -408,6 +431,7 @@ def differences(program: str | None = None) -> Iterator[Difference]:
     """All that is compared: its kind, its place, and how it differs, which is nothing where it doesn't."""
     yield from other_parts(program)
     yield from other_layers()
+    yield from other_designs()
     yield from other_crates()
     yield from other_sentences()
 
@@ -425,7 +449,7 @@ def main() -> int:
         return 0
     if words.printed:
         name, file = words.printed
-        if name not in ("measures", "limits"):
+        if name not in (*TABLES, "limits"):
             parser.error(f"nothing prints {name}")
         if not Path(file).is_file():
             stop(f"there is no {file}")

@@ -4,7 +4,7 @@ from __future__ import annotations
 import re
 from collections.abc import Iterable
 
-from .words import COMMANDS, OWN
+from .words import CLOCKS, COMMANDS, OF_RTL, OWN
 
 OPTIONS = {
     "FILE": "the source; - or none is standard input",
@@ -15,6 +15,12 @@ OPTIONS = {
     "--certificate FILE": "what cert wrote",
     "--isl": "tells the sources as isl's maps, from each read's points to those that wrote the values",
     "--unproved": "answers by the unproved program, which ./compaan build --unproved makes",
+}
+
+# What stands beside these for rtl.
+DESIGNING = {
+    "--policy least": "capacities below those of down, none of which can be lowered",
+    CLOCKS: "writes the number of clocks in place of the design, and beside least capacities that with those of down",
 }
 
 BUILDING = {
@@ -67,12 +73,13 @@ def command_help(command: str) -> str:
     elif command == "c":
         words = ["FILE.c", "[--function NAME]", "[--out ARRAY].."]
     else:
-        words = ["FILE", "[NAME=VALUE]..", "[--policy seq|down]"]
+        words = ["FILE", "[NAME=VALUE]..", "[--policy seq|down|least]" if command == OF_RTL else "[--policy seq|down]"]
         words += ["[--data FILE]"] if "data" in reads else []
         words += ["--certificate FILE"] if "certificate" in reads else []
         words += ["[--isl]"] if command == "deps" else []
+        words += [f"[{CLOCKS}]"] if command == OF_RTL else []
         words += ["[--unproved]"]
     said = " ".join(words)
-    options = BUILDING if command == "build" else FROM_C if command == "c" else OPTIONS
+    options = BUILDING if command == "build" else FROM_C if command == "c" else OPTIONS | (DESIGNING if command == OF_RTL else {})
     shown = [(name, about) for name, about in options.items() if name.split()[0] in re.findall(r"[-\w=]+", said)]
     return "\n".join([f"./compaan {command} {said}".rstrip(), "", f"  {text}", "", *lines_of(shown, 22)]).rstrip() + "\n"

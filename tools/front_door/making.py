@@ -55,7 +55,9 @@ def example_words(name: str) -> list[str]:
 def answers_well(program: Path, name: str) -> bool:
     """Whether a program answers the example of its crate, which has this name, as it should."""
     answer = run(str(program), example_words(name), (crate_of(name) / "stdin").read_bytes(), reads_output=True)
-    return answer.status == 0 and answer.output == (crate_of(name) / "stdout").read_bytes()
+    status = crate_of(name) / "status"
+    wanted = int(status.read_text(encoding="ascii")) if status.is_file() else 0
+    return answer.status == wanted and answer.output == (crate_of(name) / "stdout").read_bytes()
 
 
 # ------------------------------------------------------------------------------------------------------------- how far

@@ -23,6 +23,8 @@ COMMANDS = {
 }
 # The command of the second program, which gets the words behind it.
 OF_RTL = "rtl"
+# An option of the second program, which it judges.
+CLOCKS = "--clocks"
 OWN = ("draw", "report", "c", "build", "help")
 
 RESERVED = "param in out inout var int for if else min max".split()
@@ -84,6 +86,8 @@ def plain_options(arguments: list[str]) -> "Options | None":
             found.unproved = True
         elif word == "--isl":
             found.isl = True
+        elif word == CLOCKS:
+            found.rest.append(word)
         elif word in ("--data", "--certificate", "--policy"):
             value = next(words, "--")
             if value.startswith("-") and (value != "-" or word == "--policy"):

@@ -4,12 +4,12 @@ from __future__ import annotations
 import difflib
 import re
 
-from .words import COMMANDS, OWN, RESERVED, Words, is_name, is_option
+from .words import CLOCKS, COMMANDS, OF_RTL, OWN, RESERVED, Words, is_name, is_option
 
 
 def said_of(words: Words) -> str | None:
     """What is wrong with the words of a call, and where to look, or None where nothing is found."""
-    wrong = wrong_word(words.passed)
+    wrong = wrong_word(words.passed, words.command == OF_RTL)
     if wrong is None:
         return None
     known = words.command in COMMANDS and words.command not in OWN
@@ -17,8 +17,8 @@ def said_of(words: Words) -> str | None:
     return f"{wrong} ({hint})"
 
 
-def wrong_word(passed: list[str]) -> str | None:
-    """What is wrong with the words that the program refused, or None where nothing is found."""
+def wrong_word(passed: list[str], is_rtl: bool) -> str | None:
+    """What is wrong with the words that the program, the second one for rtl, refused, or None where nothing is found."""
     cut = passed.index("--") if "--" in passed else len(passed)
     words, policies = list(passed), 0
     kept: list[str] = []
@@ -32,10 +32,12 @@ def wrong_word(passed: list[str]) -> str | None:
             value = word.partition("=")[2] if "=" in word else (words[at + 1] if at + 1 < cut else "")
             at += "=" not in word
             policies += 1
-            if value not in ("seq", "down"):
-                return f"--policy is seq or down, and not {value!r}"
+            if value not in ("seq", "down", *(["least"] if is_rtl else [])):
+                return f"--policy is {'seq, down or least' if is_rtl else 'seq or down'}, and not {value!r}"
             if policies > 1:
                 return "--policy stands twice"
+        elif is_rtl and word == CLOCKS:
+            pass
         elif is_option(word):
             return f"there is no option {word}"
         else:

@@ -1,31 +1,44 @@
 #!/usr/bin/env python3
-"""Shows that tools/hardware/simulate.py can fail: it plants faults, one at a time, and wants each to be told.
+"""Shows that the simulations can fail, those of tools/hardware/simulate.py and of hardware/frames, and that of a netlist: it plants faults,
+one at a time, and wants each to be told.
 
-usage: tools/hardware/faults.py [--compaan PROGRAM] [--ghdl PROGRAM]
+usage: tools/hardware/faults.py [--compaan PROGRAM] [--rtl PROGRAM] [--ghdl PROGRAM] [--text vhdl|rtl]
 
-The faults are planted in the answers that are wanted, in the capacities of channels, in the channel and in the nodes. Prints a
-table, and ends with 0 where each was told as it was to be, 1 where one wasn't, and 2 where it can't begin, as without GHDL.
+The faults are planted in the answers that are wanted, in the capacities of channels, in the channel and in the nodes, and in whole
+designs; with --text in those of `compaan vhdl` alone, or in designs alone. Prints a table, and ends with 0 where each was told as it was to
+be, 1 where one wasn't, and 2 where it can't begin, as without GHDL.
 """
 from __future__ import annotations
 
 import sys
-from collections.abc import Iterator
+from collections.abc import Callable, Iterator
+from itertools import chain
 from pathlib import Path
 from typing import NamedTuple
 
 sys.path.insert(0, str(Path(__file__).resolve().parents[1]))
-from common import examples, head, program_of, row, stop
-from hardware import harness
-from hardware.wiring import Unfit, wiring_text
+from common import examples, head, program_of, row, rtl_program_of, stop
+from hardware import harness, netlists
+from hardware.frames import Frames, Run, files_of, frames_of, judged
+from hardware.harness import Outcome
+from hardware.wiring import Arrays, Unfit, wiring_text
 
 
 class Planted(NamedTuple):
-    """What is simulated with a fault: the fault, the example, the verdict that is wanted, and the files."""
+    """What is simulated with a fault: the fault, the example, the verdict that is wanted, and how it is simulated by GHDL."""
 
     fault: str
     example: str
     wanted: str
-    files: dict[str, str]
+    outcome: Callable[[str], Outcome]
+
+
+def simulated(files: dict[str, str]) -> Callable[[str], Outcome]:
+    """The simulation of these files."""
+    return lambda ghdl: harness.simulate(ghdl, files, STANDARD)
+
+
+STANDARD = "93"
 
 
 def greater_by_one(answer: str) -> str:
@@ -87,7 +100,7 @@ def in_answers(program: str) -> Iterator[Planted]:
     for example in examples():
         for fault, change in ANSWERS:
             files = harness.design_of(program, "seq", example, change(example.answer.decode("latin-1"))).files
-            yield Planted(fault, example.name, "different", files)
+            yield Planted(fault, example.name, "different", simulated(files))
 
 
 def in_capacities(program: str) -> Iterator[Planted]:
@@ -100,7 +113,7 @@ def in_capacities(program: str) -> Iterator[Planted]:
             channels = [less if other == channel else other for other in network.channels]
             wiring = wiring_text(network._replace(channels=channels), nodes)
             fault = f"channel {channel.number} has a capacity of {less.capacity}, and {channel.capacity} is needed"
-            yield Planted(fault, name, "stuck", {**files, "network.vhd": wiring})
+            yield Planted(fault, name, "stuck", simulated({**files, "network.vhd": wiring}))
 
 
 def in_texts(program: str) -> Iterator[Planted]:
@@ -109,27 +122,124 @@ def in_texts(program: str) -> Iterator[Planted]:
         files = harness.design_of(program, "seq", examples([name])[0]).files
         if files[file].count(old) != 1:
             raise Unfit(f"`{old}` doesn't stand once in {file} of {name}")
-        yield Planted(fault, name, wanted, {**files, file: files[file].replace(old, new)})
+        yield Planted(fault, name, wanted, simulated({**files, file: files[file].replace(old, new)}))
+
+
+ONE, STALLS, THREE = Run(1, False), Run(3, True), Run(3, False)
+
+ARCHITECTURE, PART = "architecture rtl of {} is", "  {} : entity work.{}"
+FIRST = "first0 : codes(0 to 3) := (0 => 0, 1 => 0, 2 => 0"
+
+# Of designs: the fault, the example, the policy, the run, the line behind which the text stands first, the text, what takes its place, and
+# the verdict that is wanted.
+DESIGN_EDITS: list[tuple[str, str, str, Run, str, str, str, str]] = [
+    ("a repeat has a turn less", "fir", "seq", ONE, ARCHITECTURE.format("control_4"), "1 => 8", "1 => 7", "different"),
+    ("a repeat begins at another place", "running_sum", "seq", ONE, ARCHITECTURE.format("control_1"), FIRST, FIRST[:-1] + "1", "not equal"),
+    ("a repeat's counter isn't set back", "sobel", "seq", THREE, ARCHITECTURE.format("control_4"), "here) <= 0;", "here) <= 1;", "different"),
+    ("a node doesn't begin anew", "running_sum", "seq", THREE, ARCHITECTURE.format("node_1"), "again => again", "again => '0'", "stuck"),
+    ("a node gives where there is no room", "fir", "seq", ONE, ARCHITECTURE.format("node_2"), " and c0_ready = '1'", "", "not equal"),
+    ("a node takes where there is nothing", "fir", "seq", ONE, ARCHITECTURE.format("node_4"), " and c4_valid = '1')", ")", "not equal"),
+    ("a source doesn't wait", "fir", "seq", STALLS, ARCHITECTURE.format("node_0"), " and given_valid = '1'", "", "not equal"),
+    (
+        "a sink doesn't wait",
+        "transpose",
+        "seq",
+        STALLS,
+        ARCHITECTURE.format("node_2"),
+        " and (gave = '0' or result_ready = '1')",
+        "",
+        "not equal",
+    ),
+    ("a fire reads another slot", "fir", "seq", ONE, ARCHITECTURE.format("node_3"), "7 => 6", "7 => 5", "different"),
+    ("a node takes the lesser for the product", "fir", "seq", ONE, ARCHITECTURE.format("node_3"), "mul(pick", "least(pick", "different"),
+    ("a loop gains another value", "running_sum", "seq", ONE, ARCHITECTURE.format("node_0"), "0001", "0002", "different"),
+    ("a loop isn't led back to its first value", "running_sum", "seq", THREE, ARCHITECTURE.format("node_0"), "fffd", "fffc", "different"),
+    ("a channel has less room", "floyd_warshall", "down", ONE, PART.format("channel_1", "channel"), "=> 25", "=> 24", "stuck"),
+    ("a channel has more room", "wavelet", "down", ONE, PART.format("channel_1", "channel"), "=> 1", "=> 9", "not sim's clocks"),
+    ("two ports are joined crosswise", "fir", "seq", ONE, PART.format("node_3", "node_3"), "=> front_2", "=> front_3", "different"),
+    (
+        "the channel shows its newest token",
+        "image_pipeline",
+        "down",
+        STALLS,
+        ARCHITECTURE.format("channel"),
+        "ring(oldest)",
+        "ring((free + capacity - 1) mod capacity)",
+        "different",
+    ),
+]
+
+
+def in_a_run(frames: Frames, run: Run) -> Callable[[str], Outcome]:
+    """A run of a design."""
+    return lambda ghdl: judged(frames, run, harness.simulate(ghdl, files_of(frames, run), STANDARD))
+
+
+def edited(design: str, behind: str, old: str, new: str) -> str:
+    """The text with another one in the place of the first behind a line."""
+    front, line, back = design.partition(behind + "\n")
+    if not line or old not in back:
+        raise Unfit(f"`{old}` doesn't stand behind `{behind}`")
+    return front + line + back.replace(old, new, 1)
+
+
+def in_designs(program: str, rtl: str) -> Iterator[Planted]:
+    """Another text of a whole design."""
+    for fault, name, policy, run, behind, old, new, wanted in DESIGN_EDITS:
+        frames = frames_of(program, rtl, policy, examples([name])[0], run.frames)
+        changed = frames._replace(design=edited(frames.design, behind, old, new))
+        yield Planted(f"{fault}; {run}", name, wanted, in_a_run(changed, run))
+
+
+def in_answers_of_frames(program: str, rtl: str) -> Iterator[Planted]:
+    """A fault in the answer that is wanted of the last frame."""
+
+    def with_more(arrays: Arrays, by: int) -> Arrays:
+        return [*arrays[:-1], (arrays[-1][0], [*arrays[-1][1][:-1], arrays[-1][1][-1] + by])]
+
+    for name in ("fir", "image_pipeline"):
+        frames = frames_of(program, rtl, "down", examples([name])[0], 3)
+        data, answer = frames.frames[-1]
+        changed = frames._replace(frames=[*frames.frames[:-1], (data, with_more(answer, 1))])
+        for run in (STALLS, THREE):
+            yield Planted(f"the last value that is wanted is greater by 1; {run}", name, "different", simulated(files_of(changed, run)))
+
+
+def in_netlists(program: str, rtl: str, version: str) -> Iterator[Planted]:
+    """A table that GHDL 2.0.0 makes zeros of, since only its first value isn't 0. The simulation of what it synthesizes alone tells it."""
+    frames = frames_of(program, rtl, "seq", examples(["fir"])[0], 1)
+    changed = frames._replace(design=edited(frames.design, "architecture rtl of node_4 is", "1 => 0, 2 => 1", "1 => 0, 2 => 0"))
+    files = files_of(changed, ONE)
+    yield Planted("only the first of a table isn't 0; as it is written", "fir", "equal", simulated(files))
+    wanted = "not equal" if version.startswith("GHDL 2.") else "equal"
+    yield Planted("only the first of a table isn't 0; its netlist", "fir", wanted, lambda ghdl: netlists.resimulated(ghdl, [files]))
 
 
 def main() -> int:
     harness.end_quietly()
-    given = harness.hardware_parser(__doc__).parse_args()
+    parser = harness.design_parser(__doc__)
+    parser.add_argument("--text", choices=("vhdl", "rtl"), help="where faults are planted (both)")
+    given = parser.parse_args()
     ghdl, version = harness.find_ghdl(given.ghdl)
     program = program_of(given.compaan)
     print(head(["Fault", "Example", "Wanted", "Told", "First line"]), flush=True)
     count = missed = 0
     try:
-        for planting in (in_answers, in_capacities, in_texts):
-            for it in planting(program):
-                outcome = harness.simulate(ghdl, it.files, "93")
-                is_told = outcome.verdict != "equal" if it.wanted == "not equal" else outcome.verdict == it.wanted
-                count += 1
-                missed += not is_told
-                print(row([it.fault, it.example, it.wanted, outcome.verdict, *(outcome.lines[:1] or [""])]), flush=True)
+        plantings: list[Iterator[Planted]] = []
+        if given.text != "rtl":
+            plantings += [in_answers(program), in_capacities(program), in_texts(program)]
+        if given.text != "vhdl":
+            rtl = rtl_program_of(given.rtl)
+            plantings += [in_designs(program, rtl), in_answers_of_frames(program, rtl), in_netlists(program, rtl, version)]
+        for it in chain.from_iterable(plantings):
+            outcome = it.outcome(ghdl)
+            is_told = outcome.verdict != "equal" if it.wanted == "not equal" else outcome.verdict == it.wanted
+            count += 1
+            missed += not is_told
+            print(row([it.fault, it.example, it.wanted, outcome.verdict, *(outcome.lines[:1] or [""])]), flush=True)
     except Unfit as error:
         stop(error)
-    print(f"\n{count} faults, under --std=93, by {version}: {missed} not told as wanted")
+    print(f"\n{count} faults, under --std={STANDARD}, by {version}: {missed} not told as wanted")
     return 1 if missed or not count else 0
 
 

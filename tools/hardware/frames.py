@@ -2,10 +2,13 @@
 from __future__ import annotations
 
 import re
-from collections.abc import Sequence
+from collections.abc import Iterator, Sequence
 from typing import NamedTuple
 
-from hardware.wiring import HEAD, Arrays, Unfit, words_of
+from common import Example, bundled
+from hardware import harness
+from hardware.harness import Outcome
+from hardware.wiring import HEAD, Arrays, Unfit, read_arrays, read_net
 
 
 class Stream(NamedTuple):
@@ -18,7 +21,27 @@ class Stream(NamedTuple):
     ready: str
 
 
-BENCH = """-- A test bench for a design, with the values of some frames. Made by hardware/frames.
+class Frames(NamedTuple):
+    """A design with the data and the answer of some frames: its text, how many events its network has in a frame, the clocks that
+    `compaan sim` counts of one, and the frames."""
+
+    design: str
+    events: int
+    clocks: int
+    frames: Sequence[tuple[Arrays, Arrays]]
+
+
+class Run(NamedTuple):
+    """How many frames are simulated one after the other, and whether the ports stall."""
+
+    frames: int
+    stalls: bool
+
+    def __str__(self) -> str:
+        return f"{self.frames} frame{'s' * (self.frames > 1)}{' with stalls' * self.stalls}"
+
+
+BENCH = """-- A test bench for a design, with the values of some frames in files. Made by hardware/frames.
 --
 -- It writes lines on the simulator's standard output: one for each value that isn't as wanted, and last `equal clocks T`,
 -- `different clocks T` or `stuck clocks T`. Of one frame T counts the rising edges at which not every node was done, of several those
@@ -29,7 +52,6 @@ BENCH = """-- A test bench for a design, with the values of some frames. Made by
 entity bench is end entity;
 
 architecture simulation of bench is
-  type words is array (natural range <>) of signed(63 downto 0);
   constant most_clocks : natural := {most};
 {values}  signal clk : std_logic := '0';
   signal rst : std_logic := '1';
@@ -43,6 +65,29 @@ architecture simulation of bench is
   begin
     write(said, what);
     writeline(output, said);
+  end procedure;
+
+  function bits(digit : character) return signed is
+    variable number : natural;
+  begin
+    if digit <= '9' then
+      number := character'pos(digit) - character'pos('0');
+    else
+      number := character'pos(digit) - character'pos('a') + 10;
+    end if;
+    return signed(to_unsigned(number, 4));
+  end function;
+
+  -- the next value of a file, which has 16 hexadecimal digits in a line for each
+  procedure read_value(file lines : text; value : out signed(63 downto 0)) is
+    variable given : line;
+    variable digits : string(1 to 16);
+  begin
+    readline(lines, given);
+    read(given, digits);
+    for place in digits'range loop
+      value(67 - 4 * place downto 64 - 4 * place) := bits(digits(place));
+    end loop;
   end procedure;
 begin
   whole : entity work.network
@@ -73,8 +118,12 @@ begin
     variable clocks : natural := 0;
     variable edges_over : natural := 0;
     variable same : boolean := true;
+    variable is_begun : boolean := false;
+    variable value : signed(63 downto 0);
   begin
-    if rising_edge(clk) and not over then
+    if not is_begun then
+      is_begun := true;
+{starts}    elsif rising_edge(clk) and not over then
       chance <= chance(30 downto 0) & (chance(31) xor chance(21) xor chance(1) xor chance(0));
       if rst = '0' then
 {steps}        if {is_over} then
@@ -100,19 +149,27 @@ end architecture;
 """
 
 VALUES = """  -- the values of array {s.array}, frame after frame
-  constant values_{at} : words(0 to {last}) := ({words});
+  file values_{at} : text open read_mode is "values_{at}.txt";
   signal next_{at} : natural range 0 to {last} := 0;
   signal data_{at} : signed(63 downto 0);
   signal valid_{at} : std_logic{valid};
   signal ready_{at} : std_logic{ready};
 """
 
-SOURCE_FEED = "  data_{at} <= values_{at}(next_{at}) when valid_{at} = '1' else (others => 'X');\n"
+SOURCE_VALUE = "  signal given_{at} : signed(63 downto 0);\n"
+
+SOURCE_FEED = "  data_{at} <= given_{at} when valid_{at} = '1' else (others => 'X');\n"
+
+SOURCE_START = """      read_value(values_{at}, value);
+      given_{at} <= value;
+"""
 
 # A value that is offered stands there until it is taken.
 SOURCE_STEP = """        if valid_{at} = '1' and ready_{at} = '1' then
           next_{at} <= next_{at} + 1;
           if next_{at} + 1 < {last} then
+            read_value(values_{at}, value);
+            given_{at} <= value;
             valid_{at} <= {chance};
           else
             valid_{at} <= '0';
@@ -130,7 +187,8 @@ SINK_STEP = """        ready_{at} <= {chance};
               same := false;
             end if;
           else
-            if data_{at} /= values_{at}(next_{at}) then
+            read_value(values_{at}, value);
+            if data_{at} /= value then
               tell("value " & integer'image(next_{at}) & " of {s.array}");
               same := false;
             end if;
@@ -157,44 +215,109 @@ def streams_of(design: str) -> list[Stream]:
     return streams
 
 
-def bench_text(design: str, frames: Sequence[tuple[Arrays, Arrays]], stalls: bool, most: int) -> str:
-    """A test bench that gives the data of each frame, and judges by its answer. With stalls each port is ready at some clocks alone."""
+def bench_files(design: str, frames: Sequence[tuple[Arrays, Arrays]], stalls: bool, most: int) -> dict[str, str]:
+    """A test bench that gives the data of each frame, and judges by its answer, with the files of values that it reads. With stalls each
+    port is ready at some clocks alone."""
     streams = streams_of(design)
     if not streams:
         raise Unfit("the design gives and takes nothing")
-    values = feeds = steps = ""
+    values = feeds = steps = starts = ""
     came = []
+    files = {}
     for at, stream in enumerate(streams):
         all_values: list[int] = []
         for data, answer in frames:
             all_values += dict(data if stream.is_source else answer)[stream.array]
         last = len(all_values)
+        files[f"values_{at}.txt"] = "".join(f"{value % 2**64:016x}\n" for value in all_values)
         # What waits for nothing stands there from the reset on.
         first = "'0'" if stalls or (stream.is_source and not last) else "'1'"
         values += VALUES.format(
             s=stream,
             at=at,
             last=last,
-            words=words_of(all_values),
             valid=f" := {first}" if stream.is_source else "",
             ready="" if stream.is_source else f" := {first}",
         )
         chance = f"chance({(5 * at + 3) % 32})" if stalls else "'1'"
-        feeds += SOURCE_FEED.format(at=at) if stream.is_source else ""
+        if stream.is_source:
+            values += SOURCE_VALUE.format(at=at)
+            feeds += SOURCE_FEED.format(at=at)
+            starts += SOURCE_START.format(at=at) if last else ""
         steps += (SOURCE_STEP if stream.is_source else SINK_STEP).format(s=stream, at=at, last=last, chance=chance)
         came.append(f"next_{at} = {last}")
     joins = ["clk => clk", "rst => rst", "again => again"]
     for at, stream in enumerate(streams):
         joins += [f"{stream.data} => data_{at}", f"{stream.valid} => valid_{at}", f"{stream.ready} => ready_{at}"]
     all_came = " and ".join(came)
-    return BENCH.format(
+    bench = BENCH.format(
         head=HEAD,
         most=most,
         again="1" if len(frames) > 1 else "0",
         values=values,
         feeds=feeds,
+        starts=starts,
         joins=",\n".join("      " + it for it in [*joins, "done => done"]),
         steps=steps,
         is_over="done = '1'" if len(frames) == 1 else all_came,
         all_came=f"same and {all_came}",
     )
+    return {"bench.vhd": bench, **files}
+
+
+# ------------------------------------------------------------------------------------------------------------- the frames
+
+
+def moved(arrays: Arrays, by: int) -> Arrays:
+    """The values of each array, moved on by so many places."""
+    return [(name, values[by % max(len(values), 1) :] + values[: by % max(len(values), 1)]) for name, values in arrays]
+
+
+def data_text(arrays: Arrays) -> bytes:
+    return "".join(",".join([name, *map(str, values)]) + "\n" for name, values in arrays).encode("latin-1")
+
+
+def frames_of(program: str, rtl: str, policy: str, kernel: Example, number: int) -> Frames:
+    """The design of a source, and so many frames: the first has its data, and each behind it the same values, moved on by one place in each
+    array. The answers are those of `compaan seq`."""
+    planned = ["--policy", policy, *kernel.items]
+    design = harness.written(rtl, planned, kernel.source)
+    events = read_net(harness.written(program, ["net", *planned], kernel.source)).events
+    data = read_arrays(kernel.data.decode("latin-1"))
+    frames = []
+    for at in range(max(number, 1)):
+        frame = moved(data, at)
+        answer = harness.written(program, ["seq", *kernel.items], bundled(kernel.source, data_text(frame)))
+        frames.append((frame, read_arrays(answer)))
+    return Frames(design, events, harness.clocks_of(program, policy, kernel), frames)
+
+
+def runs_of(frames: Frames) -> list[Run]:
+    """What is simulated: one frame by itself, and then all, with stalls and without."""
+    count = len(frames.frames)
+    return [Run(1, False), Run(count, True), Run(count, False)]
+
+
+def most_clocks(frames: Frames, run: Run) -> int:
+    """The clocks behind which a run is stuck."""
+    return 8 * run.frames * frames.events + 1000
+
+
+def files_of(frames: Frames, run: Run) -> dict[str, str]:
+    """The design, its test bench for a run, and the values."""
+    made = bench_files(frames.design, frames.frames[: run.frames], run.stalls, most_clocks(frames, run))
+    return {"design.vhd": frames.design, **made}
+
+
+def judged(frames: Frames, run: Run, outcome: Outcome) -> Outcome:
+    """The outcome of a run, where the clocks of one frame are those that `compaan sim` counts."""
+    if run == Run(1, False) and outcome.verdict == "equal" and outcome.clocks != frames.clocks:
+        return Outcome("not sim's clocks", outcome.clocks, [f"compaan sim counts {frames.clocks} clocks"])
+    return outcome
+
+
+def simulated(ghdl: str, frames: Frames, standard: str) -> Iterator[tuple[Run, dict[str, str], Outcome]]:
+    """Each run of a design with its files and its outcome."""
+    for run in runs_of(frames):
+        files = files_of(frames, run)
+        yield run, files, judged(frames, run, harness.simulate(ghdl, files, standard))

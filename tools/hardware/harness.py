@@ -10,13 +10,16 @@ import subprocess
 import sys
 import tempfile
 from collections.abc import Mapping, Sequence
+from dataclasses import dataclass
+from pathlib import Path
 from typing import NamedTuple
 
 from common import TOP, Example, parser_of, run, stop
-from hardware.wiring import Network, Node, Unfit, bench_text, read_arrays, read_file, read_texts, wiring_text, write_file
+from hardware.wiring import Network, Node, TooLong, Unfit, bench_text, read_arrays, read_file, read_texts, wiring_text, write_file
 
 CHANNEL = TOP / "hardware" / "channel.vhd"
 STANDARDS = ("93", "02", "08")
+RTL_HELP = "the program that writes designs (the variable COMPAAN_RTL, or else the built one)"
 
 
 class Design(NamedTuple):
@@ -25,6 +28,22 @@ class Design(NamedTuple):
     network: Network
     nodes: list[Node]
     files: dict[str, str]
+
+
+@dataclass(frozen=True)
+class Kernel(Example):
+    """A source with values of its parameters, and with data of its own or that beside it."""
+
+    values: tuple[str, ...] = ()
+    given: Path | None = None
+
+    @property
+    def data(self) -> bytes:
+        return self.given.read_bytes() if self.given else super().data
+
+    @property
+    def items(self) -> list[str]:
+        return list(self.values)
 
 
 class Outcome(NamedTuple):
@@ -53,6 +72,33 @@ def hardware_parser(text: str | None) -> argparse.ArgumentParser:
     return parser
 
 
+def design_parser(text: str | None) -> argparse.ArgumentParser:
+    """The same for a command that runs the program that writes designs too."""
+    parser = hardware_parser(text)
+    parser.add_argument("--rtl", metavar="PROGRAM", help=RTL_HELP)
+    return parser
+
+
+def kernel_words(parser: argparse.ArgumentParser) -> None:
+    """The words of a command that takes a source of one's own."""
+    parser.add_argument("--data", metavar="FILE", type=Path, help="the arrays that the source reads")
+    parser.add_argument("file", metavar="FILE", type=Path)
+    parser.add_argument("values", metavar="NAME=VALUE", nargs="*")
+
+
+def kernel_of(words: argparse.Namespace) -> Kernel:
+    """The source that the words of a command name."""
+    for file in filter(None, (words.file, words.data)):
+        if not file.is_file():
+            stop(f"there is no {file}")
+    return Kernel(words.file, tuple(words.values), words.data)
+
+
+def answer_of(program: str, kernel: Example) -> str:
+    """The arrays of a source, as `compaan seq` computes them."""
+    return written(program, ["seq", *kernel.items], kernel.bundle)
+
+
 def find_ghdl(named: str) -> tuple[str, str]:
     """GHDL and its version. Without it a command can't begin."""
     found = shutil.which(named)
@@ -63,25 +109,39 @@ def find_ghdl(named: str) -> tuple[str, str]:
     return found, f"{lines[0]}, {lines[2].strip()}"
 
 
-def call(words: Sequence[str], folder: str) -> tuple[bool, list[str]]:
-    """Whether a program ended well, and the lines that it wrote."""
-    done = subprocess.run(
-        words, cwd=folder, stdin=subprocess.DEVNULL, stdout=subprocess.PIPE, stderr=subprocess.STDOUT, text=True, check=False
-    )
+def call(words: Sequence[str], folder: str, seconds: float | None = None) -> tuple[bool, list[str]]:
+    """Whether a program ended well, and the lines that it wrote. It may take so many seconds."""
+    try:
+        done = subprocess.run(
+            words,
+            cwd=folder,
+            stdin=subprocess.DEVNULL,
+            stdout=subprocess.PIPE,
+            stderr=subprocess.STDOUT,
+            text=True,
+            check=False,
+            timeout=seconds,
+        )
+    except subprocess.TimeoutExpired:
+        raise TooLong(f"{Path(words[0]).name} took more than {seconds:g} s") from None
     return done.returncode == 0, done.stdout.splitlines()
 
 
 # -------------------------------------------------------------------------------------------------------- the networks
 
 
-def text_of(program: str, command: str, policy: str, example: Example) -> str:
-    """What the program writes of an example."""
-    words = [command, "--policy", policy, *example.items]
-    answer = run(program, words, example.bundle)
+def written(program: str, words: Sequence[str], bundle: bytes) -> str:
+    """What a program writes of a bundle."""
+    answer = run(program, words, bundle)
     if answer.status:
         complaint = answer.complaint.decode("latin-1").strip()
-        raise Unfit(f"`compaan {' '.join(words)}` ended with status {answer.status}: {complaint}")
+        raise Unfit(f"`{Path(program).name} {' '.join(words)}` ended with status {answer.status}: {complaint}")
     return answer.output.decode("latin-1")
+
+
+def text_of(program: str, command: str, policy: str, example: Example) -> str:
+    """What the program writes of an example."""
+    return written(program, [command, "--policy", policy, *example.items], example.bundle)
 
 
 def clocks_of(program: str, policy: str, example: Example) -> int:
@@ -112,13 +172,18 @@ def new_folder() -> tempfile.TemporaryDirectory[str]:
     return tempfile.TemporaryDirectory(prefix="compaan-hardware-")
 
 
+def sources_of(files: Mapping[str, str]) -> list[str]:
+    """The names of those files that are VHDL, in their order."""
+    return [name for name in files if name.endswith(".vhd")]
+
+
 def simulate(ghdl: str, files: Mapping[str, str], standard: str, options: Sequence[str] = ()) -> Outcome:
     """Analyses the files, elaborates the test bench and runs it. None of it may tell a warning."""
     with new_folder() as folder:
         for name, text in files.items():
             write_file(folder, name, text)
         common = [f"--std={standard}", f"--workdir={folder}"]
-        well, lines = call([ghdl, "-a", *common, *files], folder)
+        well, lines = call([ghdl, "-a", *common, *sources_of(files)], folder)
         if not well:
             return Outcome("not analysed", None, lines)
         well, more = call([ghdl, "-e", *common, "bench"], folder)
@@ -128,6 +193,11 @@ def simulate(ghdl: str, files: Mapping[str, str], standard: str, options: Sequen
         if lines:
             return Outcome("warnings", None, lines)
         well, lines = call([ghdl, "-r", *common, "bench", *options], folder)
+    return judged(well, lines)
+
+
+def judged(well: bool, lines: list[str]) -> Outcome:
+    """The outcome of a test bench that ended well, or didn't, with the lines that it told."""
     last = re.fullmatch(r"(equal|different|stuck) clocks (\d+)", lines[-1]) if lines else None
     if not well or not last:
         return Outcome("broken off", None, lines)

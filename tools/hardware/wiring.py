@@ -63,6 +63,10 @@ class Unfit(Exception):
     """A text isn't what is expected, or two of them disagree."""
 
 
+class TooLong(Unfit):
+    """A tool took more time than it may."""
+
+
 # The texts of the program
 
 PROCESS = re.compile(r"process (\d+) (source|assign|sink) (\w+) fires (\d+) slots \d+")

@@ -573,16 +573,12 @@ def line_texts(share: int) -> Iterator[tuple[str, int, bytes, bytes]]:
 
 # Kinds of line that take more memory than they should: a bundle that is full of them may take more than is wanted, or end with 10.
 HEAVY = {
-    "sweep",
     "r 2 1 and f",
     "s, of a proof",
-    "s 0 1, of a proof",
-    "s 0 1 0 1 0 1 0 1, of a proof",
     "m 0, of a leaf",
     "c 1, of proofs",
     "b 0 and s, of proofs",
     "t 0 and z 0, of trees",
-    "0 or 1 at random, of the schedule",
     "f or f z at random",
     "g 0 d at random, d below 10",
 }
@@ -738,7 +734,7 @@ def bundles() -> Iterator[tuple[str, str, bytes, Wanted | None]]:
 
 
 # The greatest memory that is wanted of 64 MiB of source or data, in kilobytes.
-MOST_OF_BUNDLE = 4 << 20
+MOST_OF_BUNDLE = 300 << 10
 
 
 def bundle(program: str) -> None:

@@ -54,7 +54,7 @@ LIMITS = (
     ("cert_text/src/kept.rt", "MOST_EVENTS", "docs/CERTIFICATES.md docs/SECURITY.md"),
     ("cert_lines/src/lines.rt", "NESTING_LIMIT", "docs/CERTIFICATES.md docs/SECURITY.md"),
     ("cell_rows/src/places.rt", "ROW_LIMIT", "docs/DECISIONS.md docs/SECURITY.md"),
-    ("rtl_answers/src/design.rt", "MOST_INSTRUCTIONS", "docs/RTL.md"),
+    ("unit_text/src/unit.rt", "MOST_INSTRUCTIONS", "docs/RTL.md"),
     ("vhdl_text/src/text.rt", "MOST_EVENTS", "README.md docs/COMMANDS.md docs/VHDL.md"),
 )
 GIVES = re.compile(r"`([^`]+)` gives `([^`]+)`")

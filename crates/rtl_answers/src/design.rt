@@ -1,5 +1,4 @@
 ghost use Rattle.std.specs.Prelude.{◌≡◌, ◌<◌, ◌^◌, length, IfOk};
-ghost use Rattle.std.specs.Option.{option_copied};
 ghost use Rattle.net_core.specs.Machine.{net_of};
 ghost use Rattle.net_core.specs.Shape.{FitsNumbers, IsShaped};
 ghost use Rattle.sanlp.specs.Points.{points_of};
@@ -7,7 +6,7 @@ ghost use Rattle.sanlp.specs.Size.{SizeIsOk};
 ghost use Rattle.rtl_text.specs.Designs.{AreUnitsOf};
 ghost use Rattle.command_answers.specs.Judging.{Judges};
 ghost use Rattle.rtl_answers.specs.Answering.{as_reply};
-ghost use Rattle.rtl_answers.specs.Designing.{Designs, HasDesign, first_with_long_control, has_long_control as has_long, unit_refusal};
+ghost use Rattle.rtl_answers.specs.Designing.{Designs, HasDesign, unit_refusal};
 
 use crate::answer::Answer;
 use crate::networks::network_for;
@@ -21,10 +20,7 @@ use plain_data::Items;
 use rtl_line::Policy;
 use sanlp::{Nest, Points};
 use std::alloc::{AllocError, Global};
-use unit_text::Unit;
-
-/// The most instructions of a process's control.
-const MOST_INSTRUCTIONS: usize = 65_536;
+use unit_text::{Unit, first_with_long_sequencer};
 
 /// A nest's network with the hardware of its processes, in order.
 #[derive(Drop)]
@@ -56,29 +52,11 @@ fn units_of(
     Ok(units)
 }
 
-fn has_long_control(unit: &Unit) -> bool
-    ensures { result ≡ has_long unit.now }
-{
-    unit.control.instructions.len() > MOST_INSTRUCTIONS
-}
-
-// The first process whose control has too many instructions.
-fn with_long_control(units: &[Unit]) -> Option<&Unit>
-    ensures { option_copied result ≡ first_with_long_control units.now }
-{
-    for unit in units {
-        if has_long_control(unit) {
-            return Some(unit);
-        }
-    }
-    None
-}
-
-// The refusal of a process whose control has too many instructions.
+// The refusal of a process with a sequencer of too many instructions.
 fn refusal_of(unit: &Unit) -> Refusal
     ensures { result ≡ unit_refusal unit.now }
 {
-    Refusal::Script(unit.auto.process, unit.control.instructions.len() as u64)
+    Refusal::Script(unit.auto.process, unit.longest_sequencer() as u64)
 }
 
 // The design of a nest's network, with the capacities that are wanted.
@@ -89,7 +67,7 @@ fn design_of(alloc: Global, policy: Policy, nest: Nest) -> Result<Design, Stop>
     let points = points(alloc, &nest)?;
     let network = network_for(alloc, policy, &nest, &points)?;
     let units = units_of(alloc, &nest, &points, &network)?;
-    if let Some(unit) = with_long_control(units.as_slice()) {
+    if let Some(unit) = first_with_long_sequencer(units.as_slice()) {
         return Err(Stop::Refused(refusal_of(unit)));
     }
     Ok(Design {
@@ -101,8 +79,8 @@ fn design_of(alloc: Global, policy: Policy, nest: Nest) -> Result<Design, Stop>
 
 /// The design of the network of a bundle's source.
 ///
-/// `Refusal::Script` comes where a process's control has more than 65,536 instructions, for the first such process: the number told
-/// is that of its control's instructions, and not of its events. The sequencers of loop values have no limit.
+/// `Refusal::Script` comes where a sequencer of a process has more than 65,536 instructions, for the first such process: the number
+/// told is how many the longest of its sequencers has, and not that of its events.
 pub(crate) fn design_network(
     alloc: Global,
     policy: Policy,

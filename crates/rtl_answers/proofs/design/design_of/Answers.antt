@@ -1,7 +1,7 @@
 use Rattle.std.proofs.Common.{◌∙◌, refl, sym, ap, subst}
 use Rattle.std.specs.Option.{option_copied}
 use Rattle.rtl_text.specs.Designs.{AreUnitsOf}
-use Rattle.rtl_answers.specs.Designing.{first_with_long_control}
+use Rattle.unit_text.specs.Limits.{first_with_long_sequencer}
 use Rattle.rtl_answers.proofs.design.design_of.Goals as goal
 
 pub returns-in-Some : goal.returns-in-Some
@@ -10,7 +10,7 @@ returns-in-Some c =
       units,
       c.in-Some.unit.now,
       subst (λ network. AreUnitsOf c.args.nest network units) c.in_ok-network.ensures.network c.in_ok-units.ensures,
-      ap first_with_long_control (sym c.as_slice.ensures) ∙ sym c.with_long_control.ensures
+      ap first_with_long_sequencer (sym c.as_slice.ensures) ∙ sym c.first_with_long_sequencer.ensures
           ∙ ap option_copied c.in-Some.is,
       c.refusal_of.ensures,
     )
@@ -21,6 +21,6 @@ returns c = (
   c.in_ok-network.ensures.network,
   subst (λ network. AreUnitsOf c.args.nest network c.in_ok-units.units) c.in_ok-network.ensures.network
       c.in_ok-units.ensures,
-  ap first_with_long_control (sym c.as_slice.ensures) ∙ sym c.with_long_control.ensures
+  ap first_with_long_sequencer (sym c.as_slice.ensures) ∙ sym c.first_with_long_sequencer.ensures
       ∙ ap option_copied c.in_default.is,
 )

@@ -61,7 +61,7 @@ def large(quick: bool) -> list[Large]:
         Large(EXAMPLES / "fir.loop", (("N", samples), ("T", 8)), (("x", samples), ("h", 8))),
         Large(KERNELS / "convolution.loop", image, (("image", height * width), ("kernel", 9))),
         Large(EXAMPLES / "sobel.loop", image, (("image", height * width),)),
-        Large(EXAMPLES / "matrix_product.loop", (("N", size),), (("A", size * size), ("B", size * size))),
+        Large(KERNELS / "matrix_product.loop", (("N", size),), (("a", size * size), ("b", size * size))),
     ]
 
 

@@ -34,7 +34,7 @@ values_taken cells number is_given row =
     else if length (value_fields row) == cells then values_from number 1 (value_fields row)
     else Err (Count number (length (value_fields row)) cells)
 
--- a count that differs from the number of cells; past 64 bits they can't be told
+-- a count that differs from the number of cells; those from 2^64 - 1 on can't be told
 abbrev pub IsCountFault : ℕ → ℕ → ℕ → DataError → Type 0
 IsCountFault number got want Memory = Unit {0}
 IsCountFault number got want (Count n g w) =
@@ -61,7 +61,7 @@ taken arrays number row given =
     (values_taken (wanted_count arrays a) number (is_some (slice_index_or given a None)) row))
     (array_named arrays (name_of row)) (Err (UnknownArray number))
 
--- how many values a record's array takes, as 64 bits tell it
+-- how many values a record's array takes, or 2^64 - 1 where it takes more
 abbrev pub most_for : List ArrayDecl → Option ℕ → ℕ
 most_for arrays None = 0
 most_for arrays (Some a) = min (wanted_count arrays a) 18446744073709551615

@@ -145,7 +145,7 @@ impl<'a> Reader<'a> {
     }
 
     /// Reads the next field, without its quotes, in the place of what `field` holds, and answers whether it is the last one of
-    /// its record; or `None` where the record has no end, which is so only behind the last record.
+    /// its record; or `None` where there is no further record.
     pub(crate) fn next_field(&mut self, field: &mut Items<u8>) -> Result<Option<bool>, AllocError>
         ensures left { IfOk result (λ last. (fields : List (List ℕ)) →
             IsLeft (record_left (text_of self.old) fields) last (text_of self.new)

@@ -72,8 +72,8 @@ impl Values {
     }
 }
 
-/// The values of the record whose first field, which may be its only one, was read just now; or `None` where it has no end. At most
-/// so many are kept, so that a record takes no memory for what its array can't take.
+/// The values of the record whose first field, which may be its only one, was read just now; or `None` where there is no record. At
+/// most so many are kept, so that a record takes no memory for what its array can't take.
 fn read_values(
     alloc: Global,
     most: u64,
@@ -108,7 +108,7 @@ fn most_values(arrays: &[ArrayDecl], array: Option<usize>) -> u64
     }
 }
 
-// Why a record with so many values is refused. A number past 64 bits can't be told.
+// Why a record with so many values is refused. A number from 2^64 - 1 on can't be told.
 fn count_fault(number: u64, got: u64, want: u64) -> DataError
     ensures { IsCountFault number got want result }
 {

@@ -11,9 +11,8 @@ use Rattle.call_endings.specs.Changes.{Change, IsQuiet, WritesNothing}
 abbrev pub Given : Type 0
 Given = Result (Vec (String Global)) Error
 
--- What a program whose calls for words are these did with the words that it was given, and the number that it exits with: it
--- made such a call for them. Where they were refused it read and wrote nothing, and the number is that of the status for that,
--- which no call has.
+-- What a program whose calls for words are these did with the words that it was given, and the number of its status: it made
+-- such a call for them. Where they were refused it read and wrote nothing, and the number is that of the status for that.
 abbrev pub IsRunOf : (List (List ℕ) → Change → Change → Change → ℕ → Type 0) → Given → Change
     → Change → Change → ℕ → Type 0
 IsRunOf is_call (Ok words) input output complaint number =

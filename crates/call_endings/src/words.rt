@@ -13,7 +13,7 @@ pub struct Streams<S, K, E> {
 /// Those of the process. Their types keep them apart, so that none stands in the place of another.
 pub type HostStreams = Streams<StdIn<Stdin>, StdOut<Stdout>, StdOut<Stderr>>;
 
-/// The streams of the process, none of which has had a fault.
+/// The streams of the process, by the handles that the runtime gives.
 pub fn host_streams(input: Stdin, output: Stdout, complaint: Stderr) -> HostStreams {
     Streams {
         input: StdIn::new(input),

@@ -112,7 +112,7 @@ fn push_counts(
     push_counts(counts, common, level + 1, more - 1)
 }
 
-// Per level of order of the first statement before the second: how many rows it has.
+/// Per level of order of the first statement before the second: how many rows it has.
 pub fn row_counts(
     alloc: Global,
     first: &Reference,
@@ -129,7 +129,7 @@ pub fn row_counts(
     Ok(counts)
 }
 
-// The same behind a place of a writer, and without one no rows once.
+/// The same behind a place of a writer, and without one no rows once.
 pub fn counts_behind(
     alloc: Global,
     behind: &Option<Reference>,
@@ -371,7 +371,7 @@ fn push_sums(proofs: &mut Items<Proof>, sums: &[Proof]) -> Result<(), AllocError
     push_sums(proofs, sums)
 }
 
-// The writer of this number.
+/// The writer of this number.
 pub fn writer_at<'a>(writers: &'a [Writer<'a>], number: u32) -> &'a Writer<'a>
     requires { HasWriter writers.now number }
     ensures among { Contains writers.now result.now }

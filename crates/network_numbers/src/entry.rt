@@ -169,8 +169,8 @@ fn pass_channel(
     );
 }
 
-/// Counts so many turns of the process with these channels, from this one on: at each what it uses, and then its Puts. The
-/// channels are counted one after the other, since none has to do with another. There is a queue for each channel.
+/// Counts so many turns of the process with these channels, from this one on, channel after channel, since none has to do with
+/// another: what they use of it, and its length at the end of each turn of its writer. There is a queue for each channel.
 #[tactic(auto, using(crate::proofs::RunQueues::with_channel_length))]
 pub(crate) fn pass_run(
     plans: &[PlanNumbers],

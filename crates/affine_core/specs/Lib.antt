@@ -1,2 +1,3 @@
 pub mod Affine
+pub mod Kept
 pub mod Within

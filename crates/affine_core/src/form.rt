@@ -132,8 +132,8 @@ fn sum(a: i128, b: i128) -> Result<i128, Overflow>
     a.checked_add(b).ok_or(Overflow)
 }
 
-// Adds a product. Most coefficients are 0, and add nothing.
-fn add_product(total: i128, coef: i128, value: i128) -> Result<i128, Overflow>
+/// Adds a product. Most coefficients are 0, and add nothing.
+pub(crate) fn add_product(total: i128, coef: i128, value: i128) -> Result<i128, Overflow>
     ensures { result_ok result ≡ sum_in_128_bits total coef value }
 {
     if coef == 0 {
@@ -142,8 +142,8 @@ fn add_product(total: i128, coef: i128, value: i128) -> Result<i128, Overflow>
     sum(total, product(coef, value)?)
 }
 
-// Adds the product of each coefficient and its variable's value, in order.
-fn add_products(total: i128, coefs: &[i128], at: &[i128]) -> Result<i128, Overflow>
+/// Adds the product of each coefficient and its variable's value, in order.
+pub(crate) fn add_products(total: i128, coefs: &[i128], at: &[i128]) -> Result<i128, Overflow>
     ensures { result_ok result ≡ combined_in_128_bits total coefs.now at.now }
 {
     let (Some((coef, coefs)), Some((value, at))) = (coefs.split_first(), at.split_first()) else {

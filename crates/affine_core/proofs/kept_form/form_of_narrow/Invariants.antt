@@ -1,0 +1,5 @@
+use Rattle.std.proofs.Common.{◌≡◌, take}
+use Rattle.affine_core.proofs.kept_form.form_of_narrow.Given as goal
+
+abbrev pub invariant-loop-coef : goal.invariant-loop-coef
+invariant-loop-coef l = l.wide ≡ take l.coef-index l.coefs

@@ -1,5 +1,5 @@
 -- Tests of whole numbers, which an order or an equation holds where they pass, and sizes of sums.
-use Rattle.std.proofs.Common.{◌≡◌, ◌+◌, ◌≤◌, ◌<ℤ◌, ◌≤ℤ◌, ◌+ℤ◌, ◌*ℤ◌, ℤ, pos, true, false, w64, arith}
+use Rattle.std.proofs.Common.{◌≡◌, ◌+◌, ◌<◌, ◌≤◌, ◌<ℤ◌, ◌≤ℤ◌, ◌+ℤ◌, ◌*ℤ◌, ℤ, pos, true, false, w64, arith}
 use Rattle.std.specs.Prelude.{int_le, int_lt, unsigned_abs, FitsSigned}
 use Rattle.std.specs.Ordering.{int_eq}
 use Rattle.std.proofs.lemmas.Int.{ints}
@@ -33,6 +33,9 @@ zero-times a = omega (arith, ints)
 
 pub unsigned_abs-sum : (a b : ℤ) → unsigned_abs (a +ℤ b) ≤ unsigned_abs a + unsigned_abs b
 unsigned_abs-sum a b = omega (arith, ints)
+
+pub unsigned_abs-positive : (a : ℤ) → pos 1 ≤ℤ a → 0 < unsigned_abs a
+unsigned_abs-positive a h = omega (arith, ints, h)
 
 pub unsigned_abs-signed : (a : ℤ) → FitsSigned w64 a → unsigned_abs a ≤ 9223372036854775808
 unsigned_abs-signed a h = omega (arith, ints)

@@ -61,12 +61,6 @@ agrees_then P Q (Ok value) (Some fault) f h = h
 agrees_then P Q (Err fault) None f h = h
 agrees_then P Q (Err fault) (Some other) f h = h
 
--- an answer that tells a fault tells it of another result too
-pub gives_fault : {A B : Type 0} (fault : DataError) (r : Result A DataError) (s : Result B DataError)
-    → (r ≡ Err fault → s ≡ Err fault)
-    → IsUnlessMemory Memory (Err fault) r → IsUnlessMemory Memory (Err fault) s
-gives_fault fault r s f h = λ known. f (h known)
-
 -- what holds of the value that is wanted holds of the one that is given
 pub gives_if_ok : {A : Type 0} (P : A → Type 0) (r s : Result A DataError) → IsUnlessMemory Memory r s → IfOk s P
     → IfOk r P

@@ -54,8 +54,7 @@ use Rattle.row_sums.specs.Shown.{RowParts, Shows}
 use Rattle.row_sums.proofs.SumAlgebra.{combines}
 use Rattle.row_sums.proofs.MoreVariables.{shown_widens}
 use Rattle.sanlp.proofs.Lists.{range_with_len-append}
-use Rattle.sanlp.proofs.Precedence.{common_first, common_loops-comm}
-use Rattle.difference_graphs.proofs.ProblemBounds.{common_same}
+use Rattle.sanlp.proofs.Precedence.{common_first, common_loops-comm, common_loops-same}
 use Rattle.source_tree.specs.Checked.{IsRefuted}
 use Rattle.source_tree.specs.Places.{order_rows}
 use Rattle.source_tree.specs.Rows.{RowExpr, Take, equal_rows, minus, one_less}
@@ -360,7 +359,7 @@ module _ (r : Read) (context : System) (path : IsPathContext r.context.now.vars 
     few = few_decided (65536 * 896) w z y (length order.equal) order.strict q stands.decides lt
 
     common_own : common_of u u ≡ length u.statement.loops
-    common_own = common_same u.statement.loops
+    common_own = common_loops-same u.statement.loops
 
     strict_light : (ts : List Term) → order.strict ≡ Some ts → weight ts ≤ 65536 * 896
     strict_light ts e = go order.strict e stands.decides where

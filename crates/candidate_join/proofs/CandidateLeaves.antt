@@ -11,6 +11,7 @@ use Rattle.std.specs.Option.{option_map}
 use Rattle.std.proofs.lemmas.List.{append_assoc, length-append, length-map}
 use Rattle.std.proofs.lemmas.List.Elements.{All-append, All-cons, All-head, All-nil, All-tail, All-take, All-weaker}
 use Rattle.std.proofs.lemmas.Option.{same_Some, slice_get-map}
+use Rattle.sanlp.proofs.Precedence.{common_loops-same}
 use Rattle.affine_core.specs.declared.form.Form.{Form}
 use Rattle.int_polyhedra.specs.declared.system.Proof.{Proof}
 use Rattle.int_polyhedra.specs.declared.system.System.{System}
@@ -42,7 +43,6 @@ use Rattle.difference_graphs.specs.Systems.{later_systems}
 use Rattle.difference_graphs.proofs.Just.{later_system}
 use Rattle.difference_graphs.proofs.ZeroSystems.{placed, IsPlaced}
 use Rattle.plain_data.proofs.Lists.{All-slice_get}
-use Rattle.difference_graphs.proofs.ProblemBounds.{common_same}
 use Rattle.source_tree.specs.Checked.{AreRefuted, IsRefuted}
 use Rattle.source_tree.specs.Rows.{RowExpr, RowSystem}
 use Rattle.source_tree.specs.Systems.{Context, Occurrence, after_systems, cell_systems, outside_systems, with_rows}
@@ -115,7 +115,7 @@ module _ (r : Read) (context : System) (path : IsPathContext r.context.now.vars 
   depth_levels = go (nat_lt u.number u.number) refl where
     go : (b : Bool) → nat_lt u.number u.number ≡ b → common_of u u + cond b 1 0 ≡ length u.statement.loops
     go true e = absurd (let k : u.number < u.number = grind arith in omega (arith, k))
-    go false e = omega (arith, common_same u.statement.loops)
+    go false e = omega (arith, common_loops-same u.statement.loops)
 
   module _ (k : IsNode context cand at.node.now at.rows) where
     parts : IsCheckedPoint read u cand.writes.level k.own u.number place proofs

@@ -42,8 +42,7 @@ use Rattle.difference_graphs.specs.Level.{common_of}
 use Rattle.plain_data.proofs.Lists.{All-slice_get}
 use Rattle.row_sums.specs.Carried.{carried_terms, sum_in_place}
 use Rattle.row_sums.specs.Parts.{weight}
-use Rattle.sanlp.proofs.Precedence.{common_first, common_loops-comm}
-use Rattle.difference_graphs.proofs.ProblemBounds.{common_same}
+use Rattle.sanlp.proofs.Precedence.{common_first, common_loops-comm, common_loops-same}
 use Rattle.source_tree.specs.Checked.{IsRefuted}
 use Rattle.source_tree.specs.Systems.{Occurrence, with_rows, with_write_at}
 
@@ -70,7 +69,7 @@ pub own_level : (u w : Occurrence) (q : ℕ) → w ≡ u → q < levels_before w
 own_level u w q e lt = go (nat_lt w.number w.number) refl (subst (λ u. q < levels_before w u) (sym e) lt) where
   go : (b : Bool) → nat_lt w.number w.number ≡ b → q < common_of w w + cond b 1 0 → q < length w.statement.loops
   go true f h = absurd (let k : w.number < w.number = grind arith in omega (arith, k))
-  go false f h = omega (arith, h, common_same w.statement.loops)
+  go false f h = omega (arith, h, common_loops-same w.statement.loops)
 
 -- A candidate before the best
 

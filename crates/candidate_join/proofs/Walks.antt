@@ -4,9 +4,9 @@
 -- seen. So what is seen behind the last frame may grow, and once that frame is taken off, the others lead to its
 -- context. A step lowers the height, and a Test on both sides; with each turn that is taken off the height, there are
 -- four times fewer turns, so two sides and what a Test takes itself are fewer than those of the Test.
-use Rattle.std.proofs.Common.{◌≡◌, ◌+◌, ◌*◌, ◌^◌, ◌≤◌, ◌<◌, ℕ, suc, List, [], ◌∷◌, ◌++◌, reverse, sym, ap, ◌∙◌, subst}
+use Rattle.std.proofs.Common.{◌≡◌, ◌+◌, ◌*◌, ◌^◌, ◌≤◌, ◌<◌, ℕ, suc, List, [], ◌∷◌, ◌++◌, sym, ap, ◌∙◌, subst}
 use Rattle.std.proofs.Common.{arith}
-use Rattle.std.proofs.lemmas.List.{append_assoc, reverse-append, reverse-reverse}
+use Rattle.std.proofs.lemmas.List.{append_assoc, same_from_push}
 use Rattle.std.proofs.lemmas.Nat.{pow_pos}
 use Rattle.std.proofs.Math.Nat.{pow-suc}
 use Rattle.std.proofs.Math.Pow.{pow_mono}
@@ -27,14 +27,6 @@ use Rattle.source_tree.specs.declared.tree.Tree.{Tree}
 pub not_empty : {X : Type 0} (xs : List X) (x : X) → xs ++ x ∷ [] ≡ [] → ⊥
 not_empty [] x e = let f : x ∷ [] ≡ [] = e in cc
 not_empty (y ∷ xs) x e = let f : y ∷ (xs ++ x ∷ []) ≡ [] = e in cc
-
-pub same_last : {X : Type 0} (xs ys : List X) (x y : X) → xs ++ x ∷ [] ≡ ys ++ y ∷ [] → (xs ≡ ys) × (x ≡ y)
-same_last xs ys x y e =
-    let turned : x ∷ reverse xs ≡ y ∷ reverse ys = sym (reverse-append xs (x ∷ [])) ∙ ap reverse e
-    ∙ reverse-append ys (y ∷ []) in
-    let item : x ≡ y = cc in
-    let rest : reverse xs ≡ reverse ys = cc in
-    (sym (reverse-reverse xs) ∙ ap reverse rest ∙ reverse-reverse ys, item)
 
 -- Frames
 
@@ -70,7 +62,7 @@ module _ (r : Read) (cs : List Candidate) where
       absurd (not_empty frames frame (sym e ∙ empty))
   frames_last _ _ _ (behind context there seen old all row last before whole are open_is there_is all_is is) frames
       frame e =
-      let same = same_last before frames last frame (sym is ∙ e) in
+      let same = same_from_push before frames last frame (sym is ∙ e) in
       record {
         context = context;
         seen = seen;

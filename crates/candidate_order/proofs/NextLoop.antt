@@ -35,7 +35,8 @@ use Rattle.difference_graphs.specs.Level.{common_of}
 use Rattle.difference_graphs.specs.Paths.{term_of}
 use Rattle.difference_graphs.proofs.FactSums.{fact_behind, fact_same}
 use Rattle.difference_graphs.proofs.Differences.{number_part}
-use Rattle.difference_graphs.proofs.Small.{negative_over, negative_within, opposite_fits, opposite_form, opposite_within}
+use Rattle.difference_graphs.proofs.Small.{negative_over, negative_within, opposite_form, opposite_within}
+use Rattle.difference_graphs.proofs.Small.{negation_of-some}
 use Rattle.plain_data.proofs.Lists.{slice_get_push_at, All-slice_get}
 use Rattle.row_sums.specs.Parts.{Part, part_of, row_part, IsWithin}
 use Rattle.row_sums.specs.Shown.{RowParts}
@@ -201,7 +202,7 @@ opposite_part f part =
 pub negation_over : (f other : Form) → IsWithin (2 ^ 60) f → negation_of f ≡ Some other → length other.coefs
     ≡ length f.coefs
 negation_over f other h e =
-    let is : other ≡ opposite_form f = same_Some other (opposite_form f) (sym e ∙ opposite_fits f h) in
+    let is : other ≡ opposite_form f = negation_of-some (2 ^ 60) f other (omega arith) h e in
     let even : length (form_product (negsuc 0) f).coefs ≡ length (constant_form (length f.coefs) (negsuc 0)).coefs =
     negative_over f ∙ sym (length_zeros (length f.coefs)) in
     ap (λ (f : Form). length f.coefs) is ∙ length-sums (form_product (negsuc 0) f).coefs
@@ -211,8 +212,7 @@ negation_over f other h e =
 pub negation_within : (b : ℕ) (f other : Form) → b ≤ 2 ^ 60 → IsWithin b f → negation_of f ≡ Some other
     → IsWithin (b + 1) other
 negation_within b f other le h e =
-    let is : other ≡ opposite_form f =
-    same_Some other (opposite_form f) (sym e ∙ opposite_fits f (IsWithin-weaker b (2 ^ 60) f le h)) in
+    let is : other ≡ opposite_form f = negation_of-some b f other le h e in
     subst (IsWithin (b + 1)) (sym is) (opposite_within b f h)
 
 last_row_part : (rows : List Form) (form : Form) (part : Part) → row_part (rows ++ form ∷ []) part (length rows)
@@ -276,11 +276,6 @@ module _ (context : System) (w u : Occurrence) (pair : Pair) (p : ArePoints cont
         (omega (arith, lt, p.common, common_loops-comm u.statement.loops w.statement.loops)) a.b_is a.a_is
         (own_fact context form (strict_parts a.b a.a) (same a.b a.a a.b_is a.a_is))
 
-  pub opposite_is : (b : ℕ) (form other : Form) → b ≤ 2 ^ 60 → IsWithin b form → negation_of form ≡ Some other → other
-      ≡ opposite_form form
-  opposite_is b form other le within e =
-      same_Some other (opposite_form form) (sym e ∙ opposite_fits form (IsWithin-weaker b (2 ^ 60) form le within))
-
   -- a - b - 1 on one side, and b - a on the other
   strict_other : (first second : List Form) (gap other : Form) (f g : Form)
       → IsGap context.vars first second (length c.equal) gap → slice_get first (length c.equal) ≡ Some f
@@ -326,7 +321,7 @@ module _ (context : System) (w u : Occurrence) (pair : Pair) (p : ArePoints cont
             (length c.equal) gap f g h f_is g_is part);
         below = λ other negated.
             (let o : other ≡ opposite_form (less_one gap) =
-            opposite_is (2 ^ 49 + 1) (less_one gap) other (omega arith) (less_within gap h.within) negated in
+            negation_of-some (2 ^ 49 + 1) (less_one gap) other (omega arith) (less_within gap h.within) negated in
             record {
               few = so_far.few;
               equal = equal_there other;
@@ -355,7 +350,7 @@ module _ (context : System) (w u : Occurrence) (pair : Pair) (p : ArePoints cont
             (length c.equal) gap f g h f_is g_is part);
         below = λ other negated.
             (let o : other ≡ opposite_form (less_one gap) =
-            opposite_is (2 ^ 49 + 1) (less_one gap) other (omega arith) (less_within gap h.within) negated in
+            negation_of-some (2 ^ 49 + 1) (less_one gap) other (omega arith) (less_within gap h.within) negated in
             record {
               few = so_far.few;
               equal = equal_there other;
@@ -385,7 +380,7 @@ module _ (context : System) (w u : Occurrence) (pair : Pair) (p : ArePoints cont
           lower = tt;
         };
         below = λ other negated.
-            (let o : other ≡ opposite_form gap = opposite_is (2 ^ 49) gap other (omega arith) h.within negated in
+            (let o : other ≡ opposite_form gap = negation_of-some (2 ^ 49) gap other (omega arith) h.within negated in
             later_there other
             (λ f g f_is g_is part. equal_other pair.best.now pair.new.now gap other g f h g_is f_is o part));
       })

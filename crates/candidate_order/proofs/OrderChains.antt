@@ -27,8 +27,7 @@ use Rattle.sanlp.specs.declared.nest.Statement.{Statement}
 use Rattle.sanlp.specs.Order.{common_loops}
 use Rattle.sanlp.specs.Text.{TextComposes}
 use Rattle.sanlp.proofs.TextOrders.{orders_compose}
-use Rattle.sanlp.proofs.Precedence.{common_first, common_least, common_second}
-use Rattle.difference_graphs.proofs.ProblemBounds.{common_same}
+use Rattle.sanlp.proofs.Precedence.{common_first, common_least, common_second, common_loops-same}
 use Rattle.source_tree.specs.Systems.{Occurrence}
 
 -- Sums of facts
@@ -139,7 +138,7 @@ same_loops n u v e f same =
 same_depth : (n : Nest) (u v : Occurrence) → StandsInLoopsOf n u → StandsInLoopsOf n v → u.number ≡ v.number
     → common_of u v ≡ length v.statement.loops
 same_depth n u v e f same =
-    ap (λ loops. common_loops loops v.statement.loops) (same_loops n u v e f same) ∙ common_same v.statement.loops
+    ap (λ loops. common_loops loops v.statement.loops) (same_loops n u v e f same) ∙ common_loops-same v.statement.loops
 
 -- orders by the text are told by the loops alone
 text_of : (a b c : ℕ) (first middle last u v w : Statement) → first.loops ≡ u.loops → middle.loops ≡ v.loops

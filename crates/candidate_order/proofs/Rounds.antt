@@ -10,7 +10,6 @@ use Rattle.std.specs.Option.{option_map_or}
 use Rattle.std.proofs.lemmas.Int.{ints}
 use Rattle.std.proofs.lemmas.List.{append-nil, length-append, get_or_past}
 use Rattle.std.proofs.lemmas.List.Elements.{All-append, All-head, All-tail, All-weaker}
-use Rattle.std.proofs.lemmas.Option.{same_Some}
 use Rattle.affine_core.specs.declared.form.Form.{Form}
 use Rattle.affine_core.specs.Affine.{form_sum}
 use Rattle.affine_core.proofs.Integers.{unsigned_abs-sum}
@@ -39,7 +38,7 @@ use Rattle.difference_graphs.specs.declared.edges.Edge.{Edge}
 use Rattle.difference_graphs.proofs.OrderEdges.{raised_part}
 use Rattle.difference_graphs.proofs.ZeroCycles.{negative_contradicts}
 use Rattle.difference_graphs.proofs.ZeroCycles.{opposite_contradicts, round_form, round_terms}
-use Rattle.difference_graphs.proofs.Small.{opposite_fits, opposite_form}
+use Rattle.difference_graphs.proofs.Small.{opposite_form, negation_of-some}
 use Rattle.difference_graphs.proofs.PathSums.{dropped_at, path_edge, path_join, path_same}
 use Rattle.plain_data.proofs.Lists.{All-slice_get}
 use Rattle.row_sums.specs.Parts.{Part, the_constant, the_coefficient, part_of, weighted_sum, IsWithin}
@@ -145,8 +144,7 @@ module _ (edges : List Edge) (vars : ℕ) (out back : Edge) (bound : Bound) (out
       → negation_of form ≡ Some other → IsFact context 65536 (form_parts other) shown
       → terms ≡ shown ++ terms_from (length context.rows) rows → IsContradicted context edges terms
   round_contradicts context other shown terms vars_is negated fact is =
-      let same : other ≡ opposite_form form =
-      same_Some other (opposite_form form) (sym negated ∙ opposite_fits form form_small) in
+      let same : other ≡ opposite_form form = negation_of-some (2 ^ 60) form other (omega arith) form_small negated in
       let opposed : IsFact context 65536 (form_parts (opposite_form form)) shown =
       subst (λ f. IsFact context 65536 (form_parts f) shown) same fact in
       record {
@@ -190,9 +188,8 @@ pub cycle_contradicts : (context : System) (edges : List Edge) (cycle : Cycle) (
     → IsFact context 65536 (form_parts other) shown → terms ≡ shown ++ terms_from (length context.rows) cycle.terms
     → IsContradicted context edges terms
 cycle_contradicts context edges cycle other shown terms h negated fact is =
-    let same : other ≡ opposite_form cycle.form
-    = same_Some other (opposite_form cycle.form)
-    (sym negated ∙ opposite_fits cycle.form (IsWithin-weaker (2 ^ 40) (2 ^ 60) cycle.form (omega arith) h.within)) in
+    let same : other ≡ opposite_form cycle.form =
+    negation_of-some (2 ^ 40) cycle.form other (omega arith) h.within negated in
     record {
       shown = shown;
       rows = cycle.terms;

@@ -6,7 +6,7 @@
 use Rattle.std.proofs.Common.{◌≡◌, ◌^◌, List, [], ◌∷◌, ◌++◌, length, ◌∙◌}
 use Rattle.std.proofs.Common.{arith}
 use Rattle.std.specs.Prelude.{Some}
-use Rattle.std.specs.List.{AllZip}
+use Rattle.plain_data.proofs.Lists.{AllZip-push}
 use Rattle.affine_core.specs.declared.form.Form.{Form}
 use Rattle.int_polyhedra.specs.declared.system.System.{System}
 use Rattle.int_polyhedra.specs.declared.system.Term.{Term}
@@ -22,13 +22,6 @@ use Rattle.source_tree.specs.Rows.{Take, below_zero}
 use Rattle.source_tree.specs.Systems.{test_no, test_yes}
 use Rattle.source_tree.specs.declared.tree.Tree.{Tree}
 use Rattle.source_tree.specs.declared.tree.Tree.TheViews.{Test}
-
-zip_push : {A B : Type 0} (P : A → B → Type 0) (xs : List A) (ys : List B) (x : A) (y : B) → AllZip P xs ys → P x y
-    → AllZip P (xs ++ x ∷ []) (ys ++ y ∷ [])
-zip_push P [] [] x y h k = (k, tt)
-zip_push P [] (b ∷ ys) x y h k = absurd h
-zip_push P (a ∷ xs) [] x y h k = absurd h
-zip_push P (a ∷ xs) (b ∷ ys) x y h k = (h.0, zip_push P xs ys x y h.1 k)
 
 module _ (context : System) (c : Candidate) (node : Tree) (sums : List (List Term)) (form : Form)
     (yes_tree no_tree : Tree) (is : node ≡ Test form yes_tree no_tree) (h : IsNode context c node sums) where
@@ -53,7 +46,7 @@ module _ (context : System) (c : Candidate) (node : Tree) (sums : List (List Ter
     vars = h.vars;
     are_made = more_made h.own h.made (Take form) form h.are_made (taken_made h.own.vars form parts.over);
     checked = parts.above;
-    shown = zip_push (λ row ts. IsFact context 65536 (form_parts row) ts) h.made sums form ts h.shown fact;
+    shown = AllZip-push (λ row ts. IsFact context 65536 (form_parts row) ts) h.made sums form ts h.shown fact;
     tests = simple.fewer;
     simple = simple.above;
     few = omega (arith, simple.less, h.few);
@@ -68,7 +61,7 @@ module _ (context : System) (c : Candidate) (node : Tree) (sums : List (List Ter
     are_made = more_made h.own h.made (below_zero (Take form)) other h.are_made
         (opposite_made h.own.vars form other parts.over negated);
     checked = parts.below;
-    shown = zip_push (λ row ts. IsFact context 65536 (form_parts row) ts) h.made sums other ts h.shown fact;
+    shown = AllZip-push (λ row ts. IsFact context 65536 (form_parts row) ts) h.made sums other ts h.shown fact;
     tests = simple.fewer;
     simple = simple.below;
     few = omega (arith, simple.less, h.few);

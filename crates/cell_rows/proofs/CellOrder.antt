@@ -1,5 +1,5 @@
 -- The kept cells after a write.
-use Rattle.std.proofs.Common.{◌≡◌, ℕ, List, Bool, true, false, cond, refl, sym, ap, ◌∙◌, [], ◌∷◌, ◌++◌, arith}
+use Rattle.std.proofs.Common.{◌≡◌, ℕ, List, Bool, true, false, cond, refl, sym, ap, ◌∙◌, [], ◌∷◌, ◌++◌}
 use Rattle.std.specs.Prelude.{◌&&◌, ◌==◌, Option, Some, None}
 use Rattle.std.specs.Option.{option_or}
 use Rattle.std.specs.declared.cmp.Ordering.{Ordering}
@@ -10,9 +10,9 @@ use Rattle.std.specs.Cmp.Rules.{signed_items}
 use Rattle.std.specs.Ordering.{int_eq}
 use Rattle.std.specs.BTreeMap.{get, is_at}
 use Rattle.std.proofs.lemmas.Bool.{and_parts, eqb-true}
-use Rattle.std.proofs.lemmas.Bool.Decides.{nat_tests}
 use Rattle.sanlp.specs.Cells.{Cell}
 use Rattle.std.specs.Map.{update}
+use Rattle.plain_data.proofs.Tests.{is_eq-nat_cmp}
 use Rattle.sanlp.specs.Memory.{is_cell}
 use Rattle.cell_rows.specs.CellMap.{cell_cmp, places_in, values_in}
 use Rattle.cell_rows.specs.Rows.{kept_value, with_kept}
@@ -25,13 +25,10 @@ then_is_eq Less b = refl
 then_is_eq Equal b = refl
 then_is_eq Greater b = refl
 
-nat_is_eq : (x y : ℕ) → is_eq (nat_cmp x y) ≡ (x == y)
-nat_is_eq x y = grind (arith, nat_tests)
-
 pub is_cell-cell_cmp : (c d : Cell) → is_eq (cell_cmp c d) ≡ is_cell c d
 is_cell-cell_cmp c d =
     then_is_eq (nat_cmp c.0 d.0) (slice_cmp int_cmp c.1 d.1)
-    ∙ ap (λ b. b && is_eq (slice_cmp int_cmp c.1 d.1)) (nat_is_eq c.0 d.0)
+    ∙ ap (λ b. b && is_eq (slice_cmp int_cmp c.1 d.1)) (is_eq-nat_cmp c.0 d.0)
     ∙ ap (λ b. (c.0 == d.0) && b) (sym (lists_ties int_cmp (λ x y. refl) c.1 d.1))
 
 same_cell : (c d : Cell) → is_cell c d ≡ true → c ≡ d

@@ -2,7 +2,6 @@
 -- It goes as for trees: each part is unrolled once, and then by the levels that are left.
 use Rattle.std.proofs.Common.{◌≡◌, inl, inr, ℕ, zero, suc, ◌+◌, ◌≤◌, true, false, List, [], ◌∷◌, ◌++◌, All}
 use Rattle.std.proofs.Common.{Result, Ok, codes, decimal, length, append-nil, refl, sym, subst, ◌∙◌, arith}
-use Rattle.std.proofs.Common.{le-leb}
 use Rattle.std.specs.Prelude.{bytes_eq}
 use Rattle.std.specs.List.{flat_map, join_with_byte, list_all}
 use Rattle.script_blocks.specs.declared.blocks.Blocks.{Blocks}
@@ -13,31 +12,21 @@ use Rattle.script_blocks.specs.declared.blocks.BlockPart.TheViews.{rolls-Item, r
 use Rattle.script_blocks.specs.declared.blocks.BlockPart.TheVariants.{Item}
 use Rattle.text_out.specs.Words.{line_text}
 use Rattle.cert_lines.specs.declared.error.Fault.{Fault}
-use Rattle.cert_lines.specs.Words.{IsInRange, number}
 use Rattle.cert_lines.specs.Reading.{Part, many}
 use Rattle.cert_lines.proofs.Codecs.{IsSpelled}
 use Rattle.cert_lines.proofs.LineWords.{is_word, word_of_number}
-use Rattle.cert_lines.proofs.Numerals.{number_of_decimal}
 use Rattle.cert_text.specs.CertText.{part_text, parts_text}
 use Rattle.cert_text.specs.Folding.{IsRepeat, LayerIsInRange, PartIsInRange}
 use Rattle.cert_text.specs.Places.{part_line}
 use Rattle.cert_text.specs.Reading.{part, part_behind, shallow_behind}
-use Rattle.cert_text.specs.Words.{at_least}
 use Rattle.cert_text.proofs.Texts.{text_item, text_repeat}
+use Rattle.cert_text.proofs.PartsBack.{All-none, at_least_back}
 use Rattle.cert_places.specs.Depths.{part_depths, parts_depths, repeat_levels}
 use Rattle.cert_places.proofs.LineTypes.{IsVersion, PartLine, Version, first_version, item_line, repeat_line}
 use Rattle.cert_places.proofs.LineTypes.{second_version}
 use Rattle.cert_places.proofs.Outcomes.{Answers, IsSaid, deep_answers, made_answers, many_answer, moved_answers}
 use Rattle.cert_places.proofs.Outcomes.{said_of_words, value_answers, within_answers}
 use Rattle.cert_places.proofs.ReachedParts.{depths_item, depths_repeat}
-
-at_least_back : (least n : ℕ) → least ≤ n → IsInRange n → at_least least (number (decimal n)) ≡ Ok n
-at_least_back least n some few = rw (number_of_decimal n few, le-leb least n some) refl
-
--- a list of which nothing holds is empty
-none_there : {A : Type 0} (xs : List A) → 1 ≤ length xs → All (λ (x : A). ⊥) xs → ⊥
-none_there [] some all = omega (arith, some)
-none_there (x ∷ xs) some all = all 0 x (omega arith)
 
 module _ {T : Type 0} (judge : List (List ℕ) → Result T Fault) (words : T → List (List ℕ)) (P : T → Type 0)
     (spelled : IsSpelled judge words P)
@@ -150,7 +139,7 @@ module _ {T : Type 0} (judge : List (List ℕ) → Result T Fault) (words : T �
       → PartUnrolled version depth (roll-BlockPart T y)
   flat_layer version known depth (layer.Item x) k =
       subst (PartUnrolled version depth) (sym (rolls-Item x)) (item_unrolled version known depth x k)
-  flat_layer version known depth (layer.Repeat count body) k = absurd (none_there body.parts k.0.some k.1)
+  flat_layer version known depth (layer.Repeat count body) k = absurd (All-none body.parts k.0.some k.1)
 
   level_layer : (levels depth : ℕ) (y : layer.BlockPart-F T (BlockPart T) (Blocks T))
       → LayerIsInRange P (PartIsInRange P levels) y → PartUnrolled second_version depth (roll-BlockPart T y)

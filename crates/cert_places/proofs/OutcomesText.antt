@@ -5,14 +5,11 @@
 -- piece begins just where that ended, unless the piece was refused already. The depths are put one behind the other as
 -- the bytes are. Version 1 has no line of a repeat, and no event or entry begins as one does, so none of them is taken
 -- for one. Nothing is said of bytes that are no such text, nor of the length of scripts.
-use Rattle.std.proofs.Common.{◌≡◌, ℕ, ◌+◌, List, [], ◌∷◌, ◌++◌, Ok, codes, decimal, length}
-use Rattle.std.proofs.Common.{append_assoc, append-nil, false, refl, sym, ap, subst, arith}
-use Rattle.std.specs.Prelude.{bytes_eq}
+use Rattle.std.proofs.Common.{◌≡◌, ℕ, ◌+◌, List, [], ◌∷◌, ◌++◌, Ok, codes, length}
+use Rattle.std.proofs.Common.{append-nil, refl, sym, ap, subst, arith}
 use Rattle.std.specs.List.{flat_map, join_with_byte}
 use Rattle.std.proofs.lemmas.List.Elements.{All-nil}
 use Rattle.net_core.specs.declared.network.Channel.{Channel}
-use Rattle.net_core.specs.declared.network.Event.{Event}
-use Rattle.net_core.specs.declared.network.Event.TheVariants.{Get, Fire, Put}
 use Rattle.source_tree.specs.declared.cert.Origin.{Origin}
 use Rattle.source_tree.specs.declared.cert.Origin.TheVariants as of_origin
 use Rattle.text_out.specs.Words.{line_text}
@@ -31,7 +28,7 @@ use Rattle.cert_text.specs.Reading.{folded, part, process, source, source_behind
 use Rattle.cert_text.proofs.Spellings.{HeadIsInRange, SizesAreInRange, channel_spelled, channel_words, entry_spelled}
 use Rattle.cert_text.proofs.Spellings.{entry_words, event_spelled, head_spelled, head_words, sizes_spelled, sizes_words}
 use Rattle.cert_text.proofs.Spellings.{source_spelled, source_words, version_spelled, version_words}
-use Rattle.cert_text.proofs.WordVerdicts.{not_r}
+use Rattle.cert_text.proofs.ReadBack.{event_no_repeat, entry_no_repeat, four_parts}
 use Rattle.cert_places.specs.Depths.{NestsTo, OriginNestsTo, folded_depths, parts_depths, process_depths, repeat_levels}
 use Rattle.cert_places.specs.Depths.{source_depths, tree_depths}
 use Rattle.cert_places.specs.Places.{IsShallow}
@@ -45,16 +42,6 @@ use Rattle.cert_places.proofs.ReachedText.{behind_channels, behind_kept, behind_
 use Rattle.cert_places.proofs.ReachedText.{behind_sources, behind_version, kept_of, same_head, tail_depths, tail_text}
 
 -- No item's line begins as a repeat's does
-
-event_no_repeat : (e : Event) → EventIsInRange e → (word : List ℕ) (others : List (List ℕ)) → event_words e ≡ word
-    ∷ others → bytes_eq word (codes "r") ≡ false
-event_no_repeat (Get channel slot) k word others e = let same : codes "g" ≡ word = cc in rw (← same) refl
-event_no_repeat (Fire refs) k word others e = let same : codes "f" ≡ word = cc in rw (← same) refl
-event_no_repeat (Put channel) k word others e = let same : codes "p" ≡ word = cc in rw (← same) refl
-
-entry_no_repeat : (n : ℕ) → IsInRange n → (word : List ℕ) (others : List (List ℕ)) → entry_words n ≡ word ∷ others
-    → bytes_eq word (codes "r") ≡ false
-entry_no_repeat n k word others e = let same : decimal n ≡ word = cc in rw (← same) (not_r n k)
 
 module _ (version : Version) (known : IsVersion version) (levels : ℕ) where
   process_answers : (p : FoldedProcess) → ProcessIsInRange (repeat_levels version levels) p
@@ -175,9 +162,6 @@ module _ (version : Version) (known : IsVersion version) (levels : ℕ) where
         (just_spelled (codes "end" ∷ []) (omega arith) refl) tt tt) (λ n last. behind_last version g) 0 [] []
         (omega arith) (λ n m. last_answers g m))
 
-    five : (a b c d e : List ℕ) → (a ++ (b ++ (c ++ d))) ++ e ≡ a ++ (b ++ (c ++ (d ++ e)))
-    five a b c d e = simp append_assoc refl
-
     -- the sizes and the version
 
     sizes_answer : AnswersLast (behind_sizes version sizes_of)
@@ -186,10 +170,10 @@ module _ (version : Version) (known : IsVersion version) (levels : ℕ) where
     sizes_answer =
         subst (λ (t : List ℕ). AnswersLast (behind_sizes version sizes_of) t
         (processes_depths ++ (channels_depths ++ (sources_depths ++ (schedule_depths ++ 0 ∷ [])))))
-        (five processes_text channels_text sources_text schedule_text end_text)
+        (four_parts processes_text channels_text sources_text schedule_text end_text)
         (subst (λ (ds : List ℕ). AnswersLast (behind_sizes version sizes_of)
         ((processes_text ++ (channels_text ++ (sources_text ++ schedule_text))) ++ end_text) ds)
-        (five processes_depths channels_depths sources_depths schedule_depths (0 ∷ []))
+        (four_parts processes_depths channels_depths sources_depths schedule_depths (0 ∷ []))
         (both_answer_last (folded version sizes_of) (λ g at. behind_kept version g at)
         (processes_text ++ (channels_text ++ (sources_text ++ schedule_text)))
         (processes_depths ++ (channels_depths ++ (sources_depths ++ schedule_depths))) end_text (0 ∷ []) kept_answers

@@ -27,6 +27,7 @@ use Rattle.tree_text.proofs.Spellings.{ProofLineIsInRange, TreeLineIsInRange, ma
 use Rattle.tree_text.proofs.Spellings.{proof_line_spelled, proof_words, tree_line_spelled, tree_words}
 use Rattle.tree_text.proofs.Texts.{text_cut, text_dead, text_divides, text_split, text_sum, text_test, text_writer}
 use Rattle.tree_text.proofs.Texts.{text_zero}
+use Rattle.tree_text.proofs.ReadBack.{no_proof}
 use Rattle.cert_places.specs.Depths.{NodeNestsTo, TreeNestsTo, proof_depths, proofs_depths, tree_depths}
 use Rattle.cert_places.proofs.LineTypes.{ProofLine, TreeLine, cut_line, dead_line, divides_line, split_line, sum_line}
 use Rattle.cert_places.proofs.LineTypes.{test_line, writer_line, zero_line}
@@ -91,10 +92,6 @@ proof_unrolled : (levels depth : ℕ) (p : Proof) → ProofIsInRange (suc levels
 unfolding ProofIsInRange
 proof_unrolled levels depth p r =
     subst (ProofUnrolled levels depth) (roll-out-Proof p) (proof_layer_unrolled levels depth (out-Proof p) r)
-
-no_proof : (p : Proof) → ProofIsInRange 0 p → ⊥
-unfolding ProofIsInRange
-no_proof p r = r
 
 pub proof_answers : (left levels depth : ℕ) → depth + left ≡ 513 → (p : Proof) → ProofIsInRange levels p
     → Answers (proof left) (proof_text p) (proof_depths p depth)

@@ -9,7 +9,7 @@ use Rattle.std.proofs.Common.{if◌then◌else◌, Option, Some, None, List, [],
 use Rattle.std.proofs.Common.{refl, sym, ap, subst, ◌∙◌, arith}
 use Rattle.std.specs.Prelude.{bytes_eq, ok_or}
 use Rattle.std.specs.List.{join_with_byte, list_all, onto_first}
-use Rattle.std.proofs.lemmas.Bool.{and_from, and_parts, and_right, cases_Bool}
+use Rattle.std.proofs.lemmas.Bool.{and_from, and_parts, and_right, cases_Bool, or_left, or_from}
 use Rattle.std.proofs.lemmas.List.{length-map}
 use Rattle.std.proofs.lemmas.List.Splits.{length-slice_split, slice_split-cons_no, slice_split-cons_yes}
 use Rattle.std.proofs.lemmas.Slice.Eq.{bytes_eq-Decides}
@@ -152,25 +152,19 @@ record IsMild {A : Type 0} (judge : List ℕ → Result A Fault) : Type 0 where
   negative : (word : List ℕ) → is_numeral word ≡ false → is_negative word ≡ true → judge word ≡ Err Words → ⊥
   other : (word : List ℕ) → is_numeral word ≡ false → is_negative word ≡ false → judge word ≡ Err Words
 
-or_first : (a b : Bool) → a ≡ true → (a || b) ≡ true
-or_first a b e = rw e refl
-
 or_second : (a b : Bool) → a ≡ false → b ≡ true → (a || b) ≡ true
 or_second a b e f = rw (e, f) refl
-
-or_none : (a b : Bool) → a ≡ false → b ≡ false → (a || b) ≡ false
-or_none a b e f = rw (e, f) refl
 
 milder_word : {A : Type 0} (judge : List ℕ → Result A Fault) → IsMild judge → (word : List ℕ)
     → Milder (judge word) (judge (in_pattern word))
 milder_word judge k word = elim (cases_Bool (is_numeral word)) [
   | inl numeral ↦ milder_fits (judge word) (judge (in_pattern word)) k.two (k.numeral word numeral)
-      (ap judge (a_number word (or_first (is_numeral word) (is_negative word) numeral)) ∙ k.at_two)
+      (ap judge (a_number word (or_left (is_numeral word) (is_negative word) numeral)) ∙ k.at_two)
   | inr plain ↦ elim (cases_Bool (is_negative word)) [
     | inl negative ↦ milder_fits (judge word) (judge (in_pattern word)) k.two (k.negative word plain negative)
         (ap judge (a_number word (or_second (is_numeral word) (is_negative word) plain negative)) ∙ k.at_two)
     | inr wrong ↦ milder_wrong (judge word) (judge (in_pattern word)) (k.other word plain wrong)
-        (ap judge (no_number word (or_none (is_numeral word) (is_negative word) plain wrong))
+        (ap judge (no_number word (or_from (is_numeral word) (is_negative word) plain wrong))
         ∙ k.other word plain wrong)
   ]
 ]

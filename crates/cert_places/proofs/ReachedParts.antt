@@ -3,10 +3,9 @@
 -- As for trees, the depth of a repeat and the levels that are left add up to 513, and the kind lets repeats nest two
 -- levels deeper: a repeat that is too deep can still be followed by items. Version 1 has no line of a repeat, so there
 -- each part is an item.
-use Rattle.std.proofs.Common.{◌≡◌, inl, inr, ℕ, zero, suc, ◌+◌, ◌≤◌, nat_le, List, [], ◌∷◌, ◌++◌, All, Result, Ok, Err}
-use Rattle.std.proofs.Common.{codes, decimal, length, map, append-nil, refl, sym, ap, subst, ◌∙◌, arith, leb-true}
+use Rattle.std.proofs.Common.{◌≡◌, inl, inr, ℕ, zero, suc, ◌+◌, ◌≤◌, List, [], ◌∷◌, ◌++◌, All, Result, Ok, Err}
+use Rattle.std.proofs.Common.{codes, decimal, length, map, append-nil, refl, sym, ap, subst, ◌∙◌, arith}
 use Rattle.std.specs.List.{flat_map, join_with_byte}
-use Rattle.std.proofs.lemmas.Bool.{cases_Bool}
 use Rattle.std.proofs.lemmas.List.Folds.{flat_map-map}
 use Rattle.std.proofs.lemmas.List.Splits.{join_with_byte-slice_split}
 use Rattle.script_blocks.specs.declared.blocks.Blocks.{Blocks}
@@ -18,10 +17,8 @@ use Rattle.script_blocks.specs.declared.blocks.BlockPart.TheViews.{Repeat, rolls
 use Rattle.script_blocks.specs.declared.blocks.BlockPart.TheVariants.{Item}
 use Rattle.text_out.specs.Words.{line_text}
 use Rattle.cert_lines.specs.declared.error.Fault.{Fault}
-use Rattle.cert_lines.specs.declared.error.Fault.TheVariants.{Range}
 use Rattle.cert_lines.specs.Words.{IsInRange, both, made, number, words_of}
 use Rattle.cert_lines.specs.Reading.{Part, Place, many}
-use Rattle.cert_lines.proofs.Numerals.{decimal_of_number}
 use Rattle.cert_lines.proofs.Verdicts.{at_keyword, both_ok, made_ok, same_words}
 use Rattle.cert_text.specs.CertText.{part_text, parts_text, repeat_text}
 use Rattle.cert_text.specs.Folding.{IsRepeat, PartIsInRange}
@@ -30,28 +27,13 @@ use Rattle.cert_text.specs.Reading.{part, part_behind, shallow_behind}
 use Rattle.cert_text.specs.Words.{at_least}
 use Rattle.cert_text.proofs.Proper.{item_in_range, repeat_in_range}
 use Rattle.cert_text.proofs.Texts.{text_item, text_repeat}
+use Rattle.cert_text.proofs.PartsBack.{at_least_forth}
 use Rattle.cert_places.specs.Depths.{body_depths, layer_depths, part_depths, repeat_levels}
 use Rattle.cert_places.proofs.LineTypes.{IsVersion, PartLine, Version, item_line, repeat_line}
 use Rattle.cert_places.proofs.LineTypes.{second_version}
 use Rattle.cert_places.proofs.Patterns.{Milds, mends, milds_part}
 use Rattle.cert_places.proofs.Reached.{After, HasSome, Kind, LineTaken, ManyOf, Nil, Of, Via, after_deep, after_within}
 use Rattle.cert_places.proofs.Reached.{some_many, some_nil, some_of, spelled_line, via_line, via_made, via_many, via_value}
-
--- a number that is not below the least
-at_least_forth : (least : ℕ) (word : List ℕ) (n : ℕ) → at_least least (number word) ≡ Ok n → (word ≡ decimal n)
-    × (IsInRange n × (least ≤ n))
-at_least_forth least word n e = judged (number word) refl e
-  where
-    tested : (m : ℕ) → number word ≡ Ok m → at_least least (Ok m) ≡ Ok n → (word ≡ decimal n)
-        × (IsInRange n × (least ≤ n))
-    tested m said e = elim (cases_Bool (nat_le least m)) [
-      | inl some ↦
-          let read : ◌≡◌ {A = Result ℕ Fault} (Ok m) (Ok n) = rw some at e in
-          let same : m ≡ n = cc in
-          let k = decimal_of_number word m said in
-          rw (← same) (k.0, (k.1, leb-true least m some))
-      | inr low ↦ let wrong : ◌≡◌ {A = Result ℕ Fault} (Err Range) (Ok n) = rw low at e in absurd (cc wrong)
-    ]
 
     judged : (said : Result ℕ Fault) → number word ≡ said → at_least least said ≡ Ok n → (word ≡ decimal n)
         × (IsInRange n × (least ≤ n))

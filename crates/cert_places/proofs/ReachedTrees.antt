@@ -8,7 +8,7 @@ use Rattle.std.proofs.Common.{refl, sym, ap, subst, ◌∙◌, arith}
 use Rattle.std.specs.List.{flat_map}
 use Rattle.std.proofs.lemmas.List.Elements.{All-nil}
 use Rattle.affine_core.specs.declared.form.Form.{Form}
-use Rattle.int_polyhedra.specs.declared.system.Proof.{Proof, out-Proof}
+use Rattle.int_polyhedra.specs.declared.system.Proof.{Proof}
 use Rattle.int_polyhedra.specs.declared.system.Proof.TheFolds.{fold-roll-Proof}
 use Rattle.int_polyhedra.specs.declared.system.Proof.TheOpen as proof_layer
 use Rattle.int_polyhedra.specs.declared.system.Proof.TheVariants.{Sum}
@@ -28,13 +28,14 @@ use Rattle.cert_lines.specs.Reading.{Part, Place, followed_by, line, many}
 use Rattle.text_out.specs.Words.{line_text}
 use Rattle.tree_text.specs.Lines.{map_line, proof_line, tree_line}
 use Rattle.tree_text.specs.Reading.{proof, proof_behind, tree_behind, tree_within}
-use Rattle.tree_text.specs.TreeText.{FormIsInRange, ProofIsInRange, ProofStepIsInRange, TermIsInRange, cut_text}
+use Rattle.tree_text.specs.TreeText.{FormIsInRange, ProofIsInRange, TermIsInRange, cut_text}
 use Rattle.tree_text.specs.TreeText.{dead_text, divides_text, map_text, proof_text, split_text, sum_text, test_text}
 use Rattle.tree_text.specs.TreeText.{tree_text, writer_text, zero_text}
 use Rattle.tree_text.proofs.Spellings.{ProofLineIsInRange, TreeLineIsInRange, map_spelled, map_words}
 use Rattle.tree_text.proofs.Spellings.{proof_line_spelled, proof_words, tree_line_spelled, tree_words}
 use Rattle.tree_text.proofs.Texts.{text_cut, text_dead, text_divides, text_split, text_sum, text_test, text_writer}
 use Rattle.tree_text.proofs.Texts.{text_zero}
+use Rattle.tree_text.proofs.ReadBack.{proof_in_range}
 use Rattle.cert_places.specs.Depths.{NodeNestsTo, TreeNestsTo, node_depths, proof_depths}
 use Rattle.cert_places.specs.Depths.{proofs_depths, step_depths, tree_depths}
 use Rattle.cert_places.proofs.LineTypes.{ProofLine, TreeLine, cut_line, dead_line, divides_line, proof_said, split_line}
@@ -91,11 +92,6 @@ depths_dead p d = ap (λ (t : Tree). tree_depths t d) (sym (rolls-Dead p))
     ∙ ap (λ (f : ℕ → List ℕ). f d) (fold-roll-Tree (ℕ → List ℕ) node_depths (tree_layer.Dead p))
 
 -- Proofs
-
-proof_in_range : (levels : ℕ) (p : Proof) (y : proof_layer.Proof-F Proof) → out-Proof p ≡ y
-    → ProofStepIsInRange (ProofIsInRange levels) y → ProofIsInRange (suc levels) p
-unfolding ProofIsInRange
-proof_in_range levels p y is k = subst (ProofStepIsInRange (ProofIsInRange levels)) (sym is) k
 
 -- a proof with its first line so deep, which nests so many levels from there
 abbrev pub ProofKind : ℕ → ℕ → Kind

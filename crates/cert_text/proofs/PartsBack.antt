@@ -39,10 +39,15 @@ use Rattle.cert_text.proofs.Texts.{text_item, text_repeat}
 
 -- Lines of parts
 
-at_least_back : (least n : ℕ) → least ≤ n → IsInRange n → at_least least (number (decimal n)) ≡ Ok n
+-- a list of which nothing holds is empty
+pub All-none : {A : Type 0} (xs : List A) → 1 ≤ length xs → All (λ (x : A). ⊥) xs → ⊥
+All-none [] some all = omega arith
+All-none (x ∷ xs) some all = all 0 x (omega arith)
+
+pub at_least_back : (least n : ℕ) → least ≤ n → IsInRange n → at_least least (number (decimal n)) ≡ Ok n
 at_least_back least n some few = rw (number_of_decimal n few, le-leb least n some) refl
 
-at_least_forth : (least : ℕ) (word : List ℕ) (n : ℕ) → at_least least (number word) ≡ Ok n → (word ≡ decimal n)
+pub at_least_forth : (least : ℕ) (word : List ℕ) (n : ℕ) → at_least least (number word) ≡ Ok n → (word ≡ decimal n)
     × (IsInRange n × (least ≤ n))
 at_least_forth least word n e = judged (number word) refl e
   where
@@ -199,18 +204,13 @@ module _ {T : Type 0} (judge : List (List ℕ) → Result T Fault) (words : T �
       (sym (text_item text_of x))
       (behind_line version levels n (of_part.Item x) rest (Item x) rest k (λ m. record { line = m; reads = refl }))
 
-  -- a list of which nothing holds is empty
-  none_there : {A : Type 0} (xs : List A) → 1 ≤ length xs → All (λ (x : A). ⊥) xs → ⊥
-  none_there [] some all = omega arith
-  none_there (x ∷ xs) some all = all 0 x (omega arith)
-
   shallow_back : (version : Version) (levels : ℕ) (y : layer.BlockPart-F T (BlockPart T) (Blocks T)) (n : ℕ)
       (rest : List ℕ) → IsLayer (λ _. ⊥) y
       → ReadsTo (part judge version levels) n (part_text text_of (roll-BlockPart T y) ++ rest) (roll-BlockPart T y) rest
   shallow_back version levels (layer.Item x) n rest k =
       subst (λ (p : BlockPart T). ReadsTo (part judge version levels) n (part_text text_of p ++ rest) p rest)
       (sym (rolls-Item x)) (item_reads version levels n x rest k)
-  shallow_back version levels (layer.Repeat count body) n rest k = absurd (none_there body.parts k.0.some k.1)
+  shallow_back version levels (layer.Repeat count body) n rest k = absurd (All-none body.parts k.0.some k.1)
 
   IsRead : ℕ → List ℕ → BlockPart T → Place → Type 0
   IsRead levels all p next = (all ≡ part_text text_of p ++ next.text) × PartIsInRange P levels p

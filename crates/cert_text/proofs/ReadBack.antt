@@ -49,13 +49,13 @@ use Rattle.cert_text.proofs.Spellings.{source_spelled, source_words, version_spe
 
 -- The parts of scripts and of the schedule
 
-event_no_repeat : (e : Event) → EventIsInRange e → (word : List ℕ) (others : List (List ℕ)) → event_words e ≡ word
+pub event_no_repeat : (e : Event) → EventIsInRange e → (word : List ℕ) (others : List (List ℕ)) → event_words e ≡ word
     ∷ others → bytes_eq word (codes "r") ≡ false
 event_no_repeat (Get channel slot) k word others e = let same : codes "g" ≡ word = cc in rw (← same) refl
 event_no_repeat (Fire refs) k word others e = let same : codes "f" ≡ word = cc in rw (← same) refl
 event_no_repeat (Put channel) k word others e = let same : codes "p" ≡ word = cc in rw (← same) refl
 
-entry_no_repeat : (n : ℕ) → IsInRange n → (word : List ℕ) (others : List (List ℕ)) → entry_words n ≡ word ∷ others
+pub entry_no_repeat : (n : ℕ) → IsInRange n → (word : List ℕ) (others : List (List ℕ)) → entry_words n ≡ word ∷ others
     → bytes_eq word (codes "r") ≡ false
 entry_no_repeat n k word others e = let same : decimal n ≡ word = cc in rw (← same) (not_r n k)
 
@@ -215,7 +215,7 @@ record Fits (version : Version) (sizes : Sizes) (f : Folded) : Type 0 where
   sources : All OriginIsInRange f.sources
   parts : All (PartIsInRange IsInRange (most_levels version)) f.schedule.parts
 
-four_parts : (a b c d rest : List ℕ) → (a ++ (b ++ (c ++ d))) ++ rest ≡ a ++ (b ++ (c ++ (d ++ rest)))
+pub four_parts : (a b c d rest : List ℕ) → (a ++ (b ++ (c ++ d))) ++ rest ≡ a ++ (b ++ (c ++ (d ++ rest)))
 four_parts a b c d rest = simp append_assoc
 
 folded_back : (version : Version) (sizes : Sizes) (f : Folded) (n : ℕ) (rest : List ℕ) → Fits version sizes f

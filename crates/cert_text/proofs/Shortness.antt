@@ -12,6 +12,7 @@ use Rattle.std.specs.List.{range_with_len, sum_by}
 use Rattle.std.proofs.lemmas.Bool.{cases_Bool, cases_lt}
 use Rattle.std.proofs.lemmas.List.{get_or-map, length-map, take_all}
 use Rattle.std.proofs.lemmas.List.Sums.{sum_by-cons, sum_by-take-le, sum_by_more, sum_by_more_le}
+use Rattle.std.proofs.iter.Rest.{range_with_len_first}
 use Rattle.net_core.specs.declared.network.Event.{Event}
 use Rattle.cert_text.specs.declared.kept.KeptProcess.{KeptProcess}
 use Rattle.cert_text.specs.Folding.{are_long_to, long_script, most_events, too_long}
@@ -75,13 +76,10 @@ short_where scripts schedule e =
 abbrev pub long_from : List (List Event) → ℕ → Option ℕ
 long_from scripts i = find (are_long_to scripts) (range_with_len i (length scripts - i))
 
-range_next : (i n : ℕ) → i < n → range_with_len i (n - i) ≡ i ∷ range_with_len (i + 1) (n - (i + 1))
-range_next i n lt = let left : n - i ≡ suc (n - (i + 1)) = omega arith in ap (range_with_len i) left
-
 pub long_later : (scripts : List (List Event)) (i : ℕ) → i < length scripts → are_long_to scripts i ≡ false
     → long_from scripts (i + 1) ≡ long_from scripts i
 long_later scripts i lt few =
-    sym (ap (find (are_long_to scripts)) (range_next i (length scripts) lt)
+    sym (ap (find (are_long_to scripts)) (range_with_len_first i (length scripts) lt)
     ∙ found (are_long_to scripts) i (range_with_len (i + 1) (length scripts - (i + 1))) few)
   where
     found : (p : ℕ → Bool) (x : ℕ) (xs : List ℕ) → p x ≡ false → find p (x ∷ xs) ≡ find p xs
@@ -90,7 +88,7 @@ long_later scripts i lt few =
 pub long_here : (scripts : List (List Event)) (i : ℕ) → i < length scripts → are_long_to scripts i ≡ true
     → long_from scripts i ≡ Some i
 long_here scripts i lt many =
-    ap (find (are_long_to scripts)) (range_next i (length scripts) lt)
+    ap (find (are_long_to scripts)) (range_with_len_first i (length scripts) lt)
     ∙ found (are_long_to scripts) i (range_with_len (i + 1) (length scripts - (i + 1))) many
   where
     found : (p : ℕ → Bool) (x : ℕ) (xs : List ℕ) → p x ≡ true → find p (x ∷ xs) ≡ Some x

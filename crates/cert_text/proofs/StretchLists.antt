@@ -6,7 +6,7 @@
 -- and drops them. That this takes off the first stretch whole is `stretch_first`, by induction along what follows the
 -- first entry.
 use Rattle.std.proofs.Common.{◌≡◌, ℕ, suc, ◌+◌, ◌≤◌, ◌==◌, Bool, true, false, ◌&&◌, if◌then◌else◌, cond}
-use Rattle.std.proofs.Common.{List, [], ◌∷◌, ◌++◌, map, drop, length, refl, sym, ap, ◌∙◌, arith, add-one, eqb-true}
+use Rattle.std.proofs.Common.{List, [], ◌∷◌, ◌++◌, map, drop, refl, sym, ap, ◌∙◌, arith, add-one, eqb-true}
 use Rattle.std.specs.Prelude.{nat_le}
 use Rattle.std.specs.List.{prefix_len}
 use Rattle.std.proofs.lemmas.Bool.{and_from, le-leb}
@@ -163,7 +163,3 @@ stretch_first x (y ∷ ys) = ap (before_stretches x) (stretch_first y ys) ∙ by
         ∙ ap (λ (n : ℕ). record { times = (1 + equal_in_front x ys) + 1; entry = x } ∷ stretches (drop n (y ∷ ys)))
         (sym more)
     by_test first false e = ap (λ (ss : List Stretch). record { times = 1; entry = x } ∷ ss) (sym first)
-
-pub no_entries : (entries : List ℕ) → length entries ≡ 0 → entries ≡ []
-no_entries [] e = refl
-no_entries (entry ∷ entries) e = absurd (omega (arith, e))

@@ -5,9 +5,10 @@
 -- there. So both sides are the same question on the uses, for each channel by itself. Nothing is said here of how many
 -- slots a channel out of order needs.
 use Rattle.std.proofs.Common.{◌≡◌, ◌<◌, ◌==◌, ℕ, List, [], ◌∷◌, ◌||◌, Bool, true, false, cond, Some, None, length, refl}
-use Rattle.std.proofs.Common.{arith, IsTrue, ◌↔◌}
+use Rattle.std.proofs.Common.{arith, ap, IsTrue, ◌↔◌, ⊥}
 use Rattle.std.specs.Prelude.{Option}
 use Rattle.std.specs.List.{All, cons_option, flat_map, list_any, range_with_len}
+use Rattle.std.proofs.lemmas.Bool.{eq-eqb, ne_eqb}
 use Rattle.std.proofs.lemmas.List.{length-map}
 use Rattle.std.proofs.lemmas.List.Elements.{filter_passes}
 use Rattle.channel_class.specs.Classes.{never_falls}
@@ -18,7 +19,7 @@ use Rattle.sanlp.specs.declared.nest.Nest.{Nest}
 use Rattle.sanlp.specs.declared.nest.Tag.{Tag}
 use Rattle.sanlp.proofs.Each.{Each, all_from_each, each_flat_map, each_from_all, each_map, each_of, each_then}
 use Rattle.channel_plan.specs.Plans.{HasOneSlotInOrder, plan_of, plans_at, plans_of, sources_at}
-use Rattle.channel_plan.specs.Tokens.{is_from, tokens_below, turns_used, uses_of, writers_of}
+use Rattle.channel_plan.specs.Tokens.{is_from, tokens_below, turn_of, turns_used, uses_of, writers_of}
 
 some_used : (b rest : Bool) (turn : ℕ) (used : List ℕ) → (b || rest) ≡ true → (rest ≡ true → 0 < length used)
     → 0 < length (cons_option (cond b (Some turn) None) used)
@@ -31,6 +32,13 @@ turns_used-some w [] h = absurd (cc)
 turns_used-some w (None ∷ sources) h = turns_used-some w sources h
 turns_used-some w (Some tag ∷ sources) h =
     some_used (tag.process == w) (list_any (is_from w) sources) tag.turn (turns_used w sources) h (turns_used-some w sources)
+
+-- the turn of a source, where it is of the writer and where it isn't
+pub turn_of-own : (w : ℕ) (t : Tag) → t.process ≡ w → cons_option (turn_of w (Some t)) [] ≡ t.turn ∷ []
+turn_of-own w t e = ap (λ b. cons_option (cond b (Some t.turn) None) []) (eq-eqb t.process w e)
+
+pub turn_of-foreign : (w : ℕ) (t : Tag) → (t.process ≡ w → ⊥) → cons_option (turn_of w (Some t)) [] ≡ []
+turn_of-foreign w t e = ap (λ b. cons_option (cond b (Some t.turn) None) []) (ne_eqb t.process w e)
 
 pub in_order_where : (b : Bool) → (cond b InOrder Reorder ≡ InOrder) ↔ IsTrue b
 in_order_where true = (λ e. refl, λ t. refl)

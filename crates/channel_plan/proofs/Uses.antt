@@ -24,23 +24,23 @@ map_agree f g (x ∷ xs) same =
     ap (λ y. y ∷ map f xs) (All-head (λ x. f x ≡ g x) x xs same)
     ∙ ap (λ ys. g x ∷ ys) (map_agree f g xs (All-tail (λ x. f x ≡ g x) x xs same))
 
-count_marks : {X : Type 0} (p : X → Bool) (xs : List X) → count_by (λ mark. mark) (map p xs) ≡ count_by p xs
-count_marks p [] = refl
-count_marks p (x ∷ xs) =
+pub count_by-map : {X : Type 0} (p : X → Bool) (xs : List X) → count_by (λ mark. mark) (map p xs) ≡ count_by p xs
+count_by-map p [] = refl
+count_by-map p (x ∷ xs) =
     sum_by-cons (λ mark. cond mark 1 0) (p x) (map p xs)
-    ∙ ap (λ n. cond (p x) 1 0 + n) (count_marks p xs)
+    ∙ ap (λ n. cond (p x) 1 0 + n) (count_by-map p xs)
     ∙ sym (sum_by-cons (λ y. cond (p y) 1 0) x xs)
 
 -- how many marks there are, and how many below a turn
 pub marks_all : (turns : ℕ) (used : List ℕ)
     → count_by (λ mark. mark) (tokens_among turns used) ≡ tokens_below used turns
-marks_all turns used = count_marks (is_used used) (range_with_len 0 turns)
+marks_all turns used = count_by-map (is_used used) (range_with_len 0 turns)
 
 marks_below : (turns turn : ℕ) (used : List ℕ) → turn ≤ turns
     → count_by (λ mark. mark) (take turn (tokens_among turns used)) ≡ tokens_below used turn
 marks_below turns turn used h =
     ap (count_by (λ mark. mark)) (take-map-range_with_len (is_used used) 0 turns turn h)
-    ∙ count_marks (is_used used) (range_with_len 0 turn)
+    ∙ count_by-map (is_used used) (range_with_len 0 turn)
 
 uses_are : (turns : ℕ) (used : List ℕ) → All (λ turn. turn < turns) used
     → map (λ turn. count_by (λ mark. mark) (take turn (tokens_among turns used))) used ≡ uses_of used
@@ -83,6 +83,19 @@ pub tokens_more : (used : List ℕ) (turn : ℕ)
 tokens_more used turn =
     ap (count_by (is_used used)) (range_with_len_more 0 turn turn (omega arith))
     ∙ sum_by_push (λ k. cond (is_used used k) 1 0) (range_with_len 0 turn) turn
+
+-- no turn has a lesser number than one before it
+pub tokens_below-more : (used : List ℕ) (turn more : ℕ) → tokens_below used turn ≤ tokens_below used (turn + more)
+tokens_below-more used turn zero =
+    let same : turn ≡ turn + 0 = omega arith in omega (arith, ap (tokens_below used) same)
+tokens_below-more used turn (suc more) =
+    let next : turn + more + 1 ≡ turn + suc more = omega arith in
+    omega (
+      arith,
+      tokens_below-more used turn more,
+      tokens_more used (turn + more),
+      ap (tokens_below used) next,
+    )
 
 -- some used turn has this number
 abbrev IsNumbered : List ℕ → ℕ → Type 0

@@ -20,6 +20,7 @@ use Rattle.std.proofs.lemmas.Option.{same_Some, slice_get_within}
 use Rattle.channel_plan.specs.declared.plans.ChannelPlan.{ChannelPlan}
 use Rattle.channel_plan.specs.Plans.{plan_of, plans_of, slot_plan, sources_at, turn_count}
 use Rattle.channel_plan.specs.Tokens.{tokens_below, turn_of, turns_used, uses_of}
+use Rattle.channel_plan.proofs.OneSlot.{turn_of-own, turn_of-foreign}
 use Rattle.net_core.specs.declared.network.Event.{Event}
 use Rattle.net_core.specs.declared.network.Event.TheVariants.{Get, Fire, Put}
 use Rattle.net_core.specs.declared.refs.Ref.{Ref}
@@ -29,7 +30,7 @@ use Rattle.net_core.proofs.EventCounts.{count_cons}
 use Rattle.process_derive.specs.Derived.{net}
 use Rattle.process_derive.specs.Scripts.{Usage, gets_for_uses, gets_of, point_events, puts_from, ref_of, slot_base}
 use Rattle.process_derive.specs.Scripts.{usage}
-use Rattle.process_derive.proofs.Counts.{before_more, of_other, of_own}
+use Rattle.process_derive.proofs.Counts.{before_more}
 use Rattle.process_derive.proofs.Numbers.{before_within, gets_here, script_at}
 use Rattle.process_derive.proofs.Tags.{length-sources}
 use Rattle.process_derive.proofs.ScriptNames.{IsChannelOf, all_channels}
@@ -211,7 +212,7 @@ module _ (n : Nest) (p k w c : ℕ) (found : slice_get (plans_of n) c ≡ Some (
       → uses_made (suc f) ≡ suc (uses_made f)
   uses_next f t e same =
       let next : f + 1 ≡ suc f = omega arith in
-      omega (arith, ap uses_made next, before_more (sources_at n p k) f w (Some t) e, ap length (of_own w t same))
+      omega (arith, ap uses_made next, before_more (sources_at n p k) f w (Some t) e, ap length (turn_of-own w t same))
 
   pub few_uses : (f : ℕ) → uses_made f ≤ length used
   few_uses f =
@@ -274,7 +275,7 @@ module _ (n : Nest) (p k w c : ℕ) (found : slice_get (plans_of n) c ≡ Some (
             ∙ ap (λ m. map place (range_with_len from (m - from))) needed
             ∙ ap (λ a. map place (range_with_len a (gets_made (suc f) - a))) done
         | inr other ↦ other_source f t e other (usage n p f k) refl
-            ∙ none_got f (uses_same f (Some t) e (of_other w t other))
+            ∙ none_got f (uses_same f (Some t) e (turn_of-foreign w t other))
       ]
 
   other_read : (f j : ℕ) → (j ≡ k → ⊥) → (o : Option Usage) → usage n p f j ≡ o → slots_got c (gets_of o) ≡ []

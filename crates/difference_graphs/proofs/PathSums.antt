@@ -12,7 +12,7 @@ use Rattle.std.specs.Option.{option_map_or}
 use Rattle.std.proofs.lemmas.Int.{ints}
 use Rattle.std.proofs.lemmas.List.Elements.{All-nil, All-cons, All-append}
 use Rattle.std.proofs.lemmas.Option.{slice_get_within}
-use Rattle.affine_core.proofs.Integers.{unsigned_abs-sum}
+use Rattle.affine_core.proofs.Integers.{unsigned_abs-sum, int_lt-false}
 use Rattle.int_polyhedra.specs.declared.system.Term.{Term}
 use Rattle.difference_graphs.specs.Closed.{number_parts, value_of, IsBettered, IsBound, IsFirst}
 use Rattle.difference_graphs.specs.Edges.{edge_parts, IsEdge}
@@ -107,9 +107,6 @@ at_most_trans (Some x) (Some y) (Some z) h k = omega (arith, ints, h, k)
 less_where : (a b : ℤ) → int_lt a b ≡ true → a ≤ℤ b
 less_where a b e = grind (arith, ints)
 
-not_less_where : (a b : ℤ) → int_lt a b ≡ false → b ≤ℤ a
-not_less_where a b e = grind (arith, ints)
-
 -- a value that is less than a bound, or no less
 pub below_bound : (value : ℤ) (bound : Option Bound) → option_map_or (λ b. int_lt value b.value) bound true ≡ true
     → AtMost (Some value) (value_of bound)
@@ -119,7 +116,7 @@ below_bound value (Some b) e = less_where value b.value e
 pub above_bound : (value : ℤ) (bound : Option Bound) → option_map_or (λ b. int_lt value b.value) bound true ≡ false
     → AtMost (value_of bound) (Some value)
 above_bound value None e = absurd (let h : true ≡ false = e in cc)
-above_bound value (Some b) e = not_less_where value b.value e
+above_bound value (Some b) e = int_lt-false value b.value e
 
 -- Betterment by the edges that are left
 

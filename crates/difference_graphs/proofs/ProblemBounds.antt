@@ -8,7 +8,7 @@ use Rattle.std.proofs.Common.{cond, refl, sym, ap, ◌∙◌, subst, arith, inl,
 use Rattle.std.specs.Prelude.{Option, Some, None, All, slice_get, nat_le, unsigned_abs}
 use Rattle.std.specs.List.{list_all}
 use Rattle.std.specs.Option.{option_map_or}
-use Rattle.std.proofs.lemmas.Bool.{eq-eqb, leb-true, and_parts}
+use Rattle.std.proofs.lemmas.Bool.{leb-true, and_parts}
 use Rattle.std.proofs.lemmas.List.Elements.{All-nil, All-cons}
 use Rattle.std.proofs.lemmas.Option.{same_Some, option_and_then_some}
 use Rattle.affine_core.specs.declared.form.Form.{Form}
@@ -231,11 +231,6 @@ cells_even vars depth [] [] h = refl
 cells_even vars depth [] (read ∷ reads) h = absurd h
 cells_even vars depth (write ∷ writes) [] h = absurd h
 cells_even vars depth (write ∷ writes) (read ∷ reads) h = ap suc (cells_even vars depth writes reads h.1)
-
--- how many loops a statement has in common with itself
-pub common_same : (ks : List ℕ) → common_loops ks ks ≡ length ks
-common_same [] = refl
-common_same (k ∷ ks) = ap (λ b. cond b (suc (common_loops ks ks)) 0) (eq-eqb k k refl) ∙ ap suc (common_same ks)
 
 pub record IsKnown (vars : ℕ) (r w : Occurrence) (p : ℕ) : Type 0 where
   pub few_vars : vars ≤ 12

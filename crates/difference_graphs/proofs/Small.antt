@@ -1,10 +1,11 @@
 -- Sums and multiples of forms whose numbers are small stay within 128 bits.
 use Rattle.std.proofs.Common.{◌≡◌, ℕ, ◌+◌, ◌*◌, ◌^◌, ◌≤◌, ℤ, pos, negsuc, ◌*ℤ◌, length}
-use Rattle.std.proofs.Common.{ap, ◌∙◌, arith}
+use Rattle.std.proofs.Common.{sym, ap, ◌∙◌, arith}
 use Rattle.std.specs.Prelude.{Some, unsigned_abs}
 use Rattle.std.specs.Option.{option_and_then}
 use Rattle.std.proofs.lemmas.List.Elements.{All-replicate}
 use Rattle.std.proofs.lemmas.List.{length-map}
+use Rattle.std.proofs.lemmas.Option.{same_Some}
 use Rattle.affine_core.specs.declared.form.Form.{Form}
 use Rattle.affine_core.specs.Affine.{constant_form, form_product, form_sum}
 use Rattle.affine_core.specs.Within.{form_in_128_bits}
@@ -49,3 +50,8 @@ opposite_fits f h =
     ap (option_and_then (λ minus. form_in_128_bits (form_sum minus (constant_form (length f.coefs) (negsuc 0)))))
     (negative_fits f h)
     ∙ in_bits_within (2 ^ 60 + 1) (opposite_form f) (opposite_within (2 ^ 60) f h) (omega arith)
+
+pub negation_of-some : (b : ℕ) (f other : Form) → b ≤ 2 ^ 60 → IsWithin b f → negation_of f ≡ Some other
+    → other ≡ opposite_form f
+negation_of-some b f other few within is =
+    same_Some other (opposite_form f) (sym is ∙ opposite_fits f (IsWithin-weaker b (2 ^ 60) f few within))

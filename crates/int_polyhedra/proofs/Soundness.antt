@@ -17,7 +17,7 @@ use Rattle.affine_core.specs.Within.{form_in_128_bits}
 use Rattle.affine_core.proofs.Ring.{times_not_negative, factor_positive, sum_times}
 use Rattle.affine_core.proofs.Linear.{dot, combined_is, product_at, sum_at, constant_at, form_in_128_bits_is}
 use Rattle.affine_core.proofs.Linear.{length-sums}
-use Rattle.affine_core.proofs.Integers.{int_eq-true, int_lt-false, int_lt-true}
+use Rattle.affine_core.proofs.Integers.{int_eq-true, int_lt-false, int_lt-true, unsigned_abs-positive}
 use Rattle.int_polyhedra.specs.declared.system.Proof.{Proof}
 use Rattle.int_polyhedra.specs.declared.system.Proof.TheOpen.{Proof-F, Sum, Cut, Split}
 use Rattle.int_polyhedra.specs.declared.system.Proof.TheFolds.{map-Proof, fold-roll-Proof, ind-Proof}
@@ -38,10 +38,6 @@ use Rattle.int_polyhedra.proofs.Floor.{floor_above, dot_floors}
 
 from_one : (d : ℤ) → int_lt d (pos 1) ≡ false → pos 1 ≤ℤ d
 from_one d e = grind (arith, ints)
-
-above_when : (d : ℤ) → pos 1 ≤ℤ d → 0 < unsigned_abs d
-above_when (pos n) h = omega (arith, ints)
-above_when (negsuc n) h = omega arith
 
 dot_none : (cs at : List ℤ) → list_all (λ c. int_eq c (pos 0)) cs ≡ true → dot cs at ≡ pos 0
 dot_none [] at e = refl
@@ -146,7 +142,7 @@ module _ (at : List ℤ) where
   divisor_above d e = go (int_lt d (pos 1)) refl e where
     go : (b : Bool) → int_lt d (pos 1) ≡ b → cond b (Some (Negative d)) None ≡ None → 0 < unsigned_abs d
     go true is e = absurd (let f : Some (Negative d) ≡ None = e in cc)
-    go false is e = above_when d (from_one d is)
+    go false is e = unsigned_abs-positive d (from_one d is)
 
   cut_met : (rows : List Form) (d : ℤ) (terms : List Term) (f : Form) → Each IsMet rows
       → cut_row (length at) rows d terms ≡ Ok f → IsMet f

@@ -1,16 +1,11 @@
 -- For a text that is written by several calls, one after the other: what a call that fails leaves behind.
-use Rattle.std.proofs.Common.{ℕ, List, Option, Result, Ok, Err, OnErr, ◌≡◌, ◌+◌, ◌≤◌, ◌++◌, length, take, ◌∙◌, ap}
+use Rattle.std.proofs.Common.{ℕ, List, Option, ◌≡◌, ◌+◌, ◌≤◌, ◌++◌, length, take, ◌∙◌, ap}
 use Rattle.std.proofs.Common.{arith, length-append}
 use Rattle.std.proofs.lemmas.List.{take-append-le}
 use Rattle.std.proofs.Math.Seq.{take-append-add}
 use Rattle.std.specs.Io.KnownBytes.{Appends}
 use Rattle.std.proofs.KnownBytes.{Appends-trans}
 use Rattle.io_edge.specs.Causes.{AppendsFront}
-
--- a fact holds at an error where it holds at all
-pub on_err : {T E P : Type 0} (r : Result T E) → P → OnErr r P
-on_err (Ok v) p = tt
-on_err (Err e) p = p
 
 -- `done` came, and then a front of `piece`: of the whole a front came
 pub front_after : (old mid new : Option (List ℕ)) (done piece rest whole : List ℕ)

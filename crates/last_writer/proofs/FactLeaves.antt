@@ -4,7 +4,7 @@
 -- behind those of the context, over its variables or more. So a leaf's proofs, each with the number of rows of its system,
 -- become proofs without the facts.
 use Rattle.std.proofs.Common.{◌≡◌, ◌==◌, ◌+◌, ◌*◌, ◌^◌, ◌≤◌, ℕ, zero, suc, List, [], ◌∷◌, ◌++◌, length, map, Bool, true, false, cond}
-use Rattle.std.proofs.Common.{refl, sym, ap, ◌∙◌, subst, arith, append_assoc, length-append}
+use Rattle.std.proofs.Common.{refl, sym, ap, ◌∙◌, subst, arith, append_assoc, length-append, le-add_right, le_refl}
 use Rattle.std.specs.Prelude.{Some, None, All, Contains, slice_get}
 use Rattle.std.specs.List.{flat_map}
 use Rattle.std.proofs.lemmas.Bool.{eqb-true}
@@ -12,6 +12,7 @@ use Rattle.std.proofs.lemmas.List.{length-map, map-append, nil_from_length}
 use Rattle.std.proofs.lemmas.List.Elements.{All-append, All-cons, All-contains, All-nil}
 use Rattle.std.proofs.lemmas.Option.{same_Some}
 use Rattle.std.proofs.lemmas.Simd.{map-map}
+use Rattle.plain_data.proofs.Lists.{All-flat_map}
 use Rattle.affine_core.specs.declared.form.Form.{Form}
 use Rattle.difference_graphs.specs.Joint.{no_orders, orders_behind, place_systems, write_systems_of}
 use Rattle.difference_graphs.specs.Joint.{ReadAndWrite}
@@ -93,26 +94,15 @@ all_map : {X Y : Type 0} (P : Y → Type 0) (f : X → Y) → ((x : X) → P (f 
 all_map P f h [] = All-nil P
 all_map P f h (x ∷ xs) = All-cons P (f x) (map f xs) (h x) (all_map P f h xs)
 
-all_flat : {X Y : Type 0} (P : Y → Type 0) (f : X → List Y) → ((x : X) → All P (f x)) → (xs : List X)
-    → All P (flat_map f xs)
-all_flat P f h [] = All-nil P
-all_flat P f h (x ∷ xs) = All-append P (f x) (flat_map f xs) (h x) (all_flat P f h xs)
-
-more_over : (a b : ℕ) → a ≤ a + b
-more_over a b = omega arith
-
-same_over : (a : ℕ) → a ≤ a
-same_over a = omega arith
-
 module _ (n : Nest) (r : Occurrence) (c : Context) where
   writes_over : (further : Occurrence → List (List RowExpr))
       → All (IsOver c) (flat_map (write_systems r every c further) (array_writes n r))
   writes_over further =
-      all_flat (IsOver c) (write_systems r every c further)
-      (λ u. all_flat (IsOver c) (λ (p : List RowExpr). map (λ (q : List RowExpr). with_rows (with_write_at r c u) (p ++ q))
+      All-flat_map (IsOver c) (write_systems r every c further)
+      (λ u. All-flat_map (IsOver c) (λ (p : List RowExpr). map (λ (q : List RowExpr). with_rows (with_write_at r c u) (p ++ q))
       (further u))
       (λ p. all_map (IsOver c) (λ (q : List RowExpr). with_rows (with_write_at r c u) (p ++ q))
-      (λ q. more_over c.vars (length u.statement.loops)) (further u))
+      (λ q. le-add_right c.vars (length u.statement.loops)) (further u))
       (before_rows u.number u.statement (writer_place c u) r.number r.statement (reader_place r)))
       (array_writes n r)
 
@@ -120,7 +110,7 @@ module _ (n : Nest) (r : Occurrence) (c : Context) where
   zero_over = writes_over no_orders
 
   pub dead_over : All (IsOver c) (dead_systems c)
-  dead_over = All-cons (IsOver c) (record { vars = c.vars; rows = c.rows }) [] (same_over c.vars) (All-nil (IsOver c))
+  dead_over = All-cons (IsOver c) (record { vars = c.vars; rows = c.rows }) [] (le_refl c.vars) (All-nil (IsOver c))
 
   pub point_over : (u : Occurrence) (place : List Form) → All (IsOver c) (writer_systems n r every c u place)
   point_over u place =
@@ -131,19 +121,19 @@ module _ (n : Nest) (r : Occurrence) (c : Context) where
       let after : List RowSystem = after_systems r c u place in
       let between : List RowSystem = between_systems n r every c u place in
       All-append (IsOver c) outside (cells ++ (after ++ between))
-      (all_map (IsOver c) (λ (row : Form). with_rows c (below_zero (at_place row place) ∷ [])) (λ row. same_over c.vars)
+      (all_map (IsOver c) (λ (row : Form). with_rows c (below_zero (at_place row place) ∷ [])) (λ row. le_refl c.vars)
       u.statement.rows)
       (All-append (IsOver c) cells (after ++ between)
-      (all_map (IsOver c) (λ (row : RowExpr). with_rows c (row ∷ [])) (λ row. same_over c.vars)
+      (all_map (IsOver c) (λ (row : RowExpr). with_rows c (row ∷ [])) (λ row. le_refl c.vars)
       (differ_rows u.access.subscripts r.access.subscripts place))
       (All-append (IsOver c) after between
       (All-append (IsOver c) (map (with_rows c) orders) (same_systems r c u place)
-      (all_map (IsOver c) (with_rows c) (λ order. same_over c.vars) orders) (one_over (u.number == r.number)))
+      (all_map (IsOver c) (with_rows c) (λ order. le_refl c.vars) orders) (one_over (u.number == r.number)))
       (writes_over (orders_behind u place c)))) where
         one_over : (b : Bool)
             → All (IsOver c) (cond b (with_rows c (same_rows (reader_place r) place) ∷ []) [])
         one_over true =
-            All-cons (IsOver c) (with_rows c (same_rows (reader_place r) place)) [] (same_over c.vars) (All-nil (IsOver c))
+            All-cons (IsOver c) (with_rows c (same_rows (reader_place r) place)) [] (le_refl c.vars) (All-nil (IsOver c))
         one_over false = All-nil (IsOver c)
 
 -- The facts away

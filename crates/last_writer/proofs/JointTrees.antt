@@ -12,7 +12,7 @@ use Rattle.std.specs.Option.{option_map_or}
 use Rattle.std.proofs.lemmas.Bool.{leb-true}
 use Rattle.std.proofs.lemmas.List.{append-nil, length-append, length-map}
 use Rattle.std.proofs.lemmas.List.Elements.{All-append, All-cons, All-contains, All-head, All-nil, All-tail, All-weaker}
-use Rattle.std.proofs.lemmas.List.Sums.{sum_by-cons}
+use Rattle.std.proofs.lemmas.List.Sums.{sum_by-cons, length-filter, count_by-le-length}
 use Rattle.std.proofs.lemmas.Option.{same_Some, slice_get_within}
 use Rattle.affine_core.specs.declared.form.Form.{Form}
 use Rattle.affine_core.specs.Affine.{widened_form}
@@ -42,6 +42,7 @@ use Rattle.difference_graphs.specs.Asked.{IsProblem}
 use Rattle.difference_graphs.proofs.EdgeSums.{over_append}
 use Rattle.difference_graphs.proofs.RowBounds.{forms_append}
 use Rattle.difference_graphs.specs.Level.{HasLevel}
+use Rattle.difference_graphs.proofs.MadeRows.{taken_all}
 use Rattle.plain_data.proofs.Lists.{slice_get-append_right}
 use Rattle.row_sums.specs.Parts.{IsWithin}
 use Rattle.row_sums.proofs.SmallRows.{widened_length}
@@ -70,7 +71,6 @@ use Rattle.stride_trees.proofs.ProblemBounds.{are_fitting, AreFitting}
 use Rattle.stride_rows.specs.Cuts.{AddRows}
 use Rattle.tree_facts.specs.Facts.{fact_rows, AddFacts, AreFacts}
 use Rattle.tree_facts.specs.declared.search.Facts.{Facts}
-use Rattle.tree_facts.proofs.FactSystems.{facts_made as rows_made}
 
 -- The reader
 
@@ -138,14 +138,6 @@ writer_places n r tests x few of asked =
 
 -- Numbers of writers
 
-filter_few : {X : Type 0} (p : X → Bool) (xs : List X) → length (filter p xs) ≤ length xs
-filter_few p [] = omega arith
-filter_few p (x ∷ xs) = go (p x) (filter_few p xs) where
-  go : (b : Bool) → length (filter p xs) ≤ length xs
-      → length (cond b (x ∷ filter p xs) (filter p xs)) ≤ suc (length xs)
-  go true h = omega (arith, h)
-  go false h = omega (arith, h)
-
 few_written : (array u : ℕ) (statements : List Statement) → length (writes_from array u statements) ≤ length statements
 few_written array u [] = omega arith
 few_written array u (s ∷ statements) = go (write_to array u s) (few_written array (u + 1) statements) where
@@ -161,10 +153,12 @@ few_pairs w h =
     omega (
       arith,
       length-map (filter (is_told w.answers.now) w.writers.now) (told_pair (vars_of w)),
-      filter_few (is_told w.answers.now) w.writers.now,
+      length-filter (is_told w.answers.now) w.writers.now,
+      count_by-le-length (is_told w.answers.now) w.writers.now,
       length-map w.writers.now (λ (x : Writer). write_of x.strides),
       ap length h.writers.are,
-      filter_few (stands_before r) (array_writes n r),
+      length-filter (stands_before r) (array_writes n r),
+      count_by-le-length (stands_before r) (array_writes n r),
       few_written r.access.array 0 n.statements,
       n.well_formed.few_statements,
     )
@@ -323,7 +317,7 @@ facts_made c context there facts made over is =
       vars = made.vars;
       rows = ap (λ es. row_forms c.vars (c.rows ++ es)) (append-nil (map Take facts))
           ∙ forms_append c.vars c.rows (map Take facts) context.rows facts made.rows
-          (rows_made c.vars facts (subst (λ v. AreOver v facts) (sym made.vars) over));
+          (taken_all c.vars facts (subst (λ v. AreOver v facts) (sym made.vars) over));
     })
 
 -- One answer more

@@ -6,10 +6,10 @@
 use Rattle.std.proofs.Common.{◌≡◌, ◌+◌, ◌<◌, ℕ, List, [], ◌∷◌, ◌++◌, length, refl, sym, ap, ◌∙◌}
 use Rattle.std.proofs.Common.{subst, arith}
 use Rattle.std.specs.Prelude.{sum_by}
-use Rattle.std.proofs.lemmas.List.{length_push}
+use Rattle.std.proofs.lemmas.List.{length_push, same_from_push}
 use Rattle.std.proofs.lemmas.List.Sums.{sum_by_push}
 use Rattle.affine_core.specs.declared.form.Form.{Form}
-use Rattle.candidate_join.proofs.Walks.{not_empty, same_last}
+use Rattle.candidate_join.proofs.Walks.{not_empty}
 use Rattle.difference_graphs.specs.Joint.{at_dead, at_test, at_writer, at_zero, IsCheckedForAll}
 use Rattle.difference_graphs.specs.Joint.{ReadAndWrite}
 use Rattle.difference_graphs.proofs.Heights.{height_sides}
@@ -69,7 +69,7 @@ module _ (w : Answered) (rows : ℕ) (whole : Tree) where
       → all ≡ opens ++ last ∷ [] → IsLast opens last part
   last_of _ _ (none all part empty is) opens last e = absurd (not_empty opens last (sym e ∙ empty))
   last_of _ _ (below before all tree part own above is all_is) opens last e =
-      let same = same_last before opens own last (sym all_is ∙ e) in
+      let same = same_from_push before opens own last (sym all_is ∙ e) in
       record {
         tree = tree;
         above = subst (λ opens. AreOpens w rows whole opens tree) same.0 above;

@@ -21,7 +21,7 @@ use Rattle.int_polyhedra.specs.declared.system.System.{System}
 use Rattle.int_polyhedra.specs.declared.system.Term.{Term}
 use Rattle.int_polyhedra.specs.Systems.{AreOver}
 use Rattle.sanlp.specs.Order.{common_loops}
-use Rattle.sanlp.proofs.Precedence.{common_loops-comm}
+use Rattle.sanlp.proofs.Precedence.{common_loops-comm, common_loops-same}
 use Rattle.difference_graphs.specs.Asked.{depth_of_read, depth_of_write, read_of, write_of}
 use Rattle.difference_graphs.specs.Edges.{write_rows, AreLevelRows}
 use Rattle.difference_graphs.specs.Facts.{form_parts, IsFact}
@@ -32,7 +32,7 @@ use Rattle.difference_graphs.specs.Simple.{IsLightSum}
 use Rattle.difference_graphs.specs.declared.edges.Edge.{Edge}
 use Rattle.difference_graphs.specs.declared.writes.Writes.{Writes}
 use Rattle.lex_max.proofs.PointSystems.{Opposes}
-use Rattle.difference_graphs.proofs.ProblemBounds.{common_same, asked_fits, IsKnown}
+use Rattle.difference_graphs.proofs.ProblemBounds.{asked_fits, IsKnown}
 use Rattle.lex_max.proofs.LeafParts.{less_opposes, place_taken, shown_refuted}
 use Rattle.lex_max.proofs.Levels.{later_row, of_level, same_at, sooner_row, AreOfLevel}
 use Rattle.difference_graphs.proofs.Differences.{past_part}
@@ -235,7 +235,7 @@ module _ (w : Writes) (c : Context) (context : System) (place : List Form) (here
       let ls : List ℕ = w.write.statement.now.loops in
       let j : Form = variable_form (c.vars + q + 1) (c.vars + q) in
       let j_is : slice_get points q ≡ Some j = variable_at c.vars depth q inside in
-      let common_is : common_loops ls ls ≡ depth = common_same ls in
+      let common_is : common_loops ls ls ≡ depth = common_loops-same ls in
       let long : length points ≡ depth = length_variables c.vars depth in
       let q_rows : AreOfLevel (common_loops ls ls) q place points rows =
       of_level (common_loops ls ls) q (nat_lt w.write.number w.write.number) place points rows is in

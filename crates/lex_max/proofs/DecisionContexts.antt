@@ -13,7 +13,6 @@ use Rattle.std.proofs.lemmas.List.{append-nil, length-map, length_push}
 use Rattle.std.proofs.lemmas.List.Elements.{All-append, All-cons, All-nil}
 use Rattle.std.proofs.lemmas.List.FromFn.{length-range_with_len}
 use Rattle.std.proofs.lemmas.List.Sums.{sum_by-cons}
-use Rattle.std.proofs.lemmas.Option.{same_Some}
 use Rattle.affine_core.specs.declared.form.Form.{Form}
 use Rattle.affine_core.specs.Affine.{form_product}
 use Rattle.affine_core.proofs.Linear.{length-sums}
@@ -42,7 +41,8 @@ use Rattle.lex_max.proofs.LeastForm.{kept_none, kept_some, switched_to}
 use Rattle.difference_graphs.proofs.ProblemBounds.{asked_fits}
 use Rattle.difference_graphs.proofs.EdgeSums.{over_append}
 use Rattle.difference_graphs.proofs.ZeroCycles.{opposite_coefficient, opposite_constant, opposite_contradicts}
-use Rattle.difference_graphs.proofs.Small.{negative_over, opposite_fits, opposite_form, opposite_within}
+use Rattle.difference_graphs.proofs.Small.{negative_over, opposite_form, opposite_within}
+use Rattle.difference_graphs.proofs.Small.{negation_of-some}
 use Rattle.lex_max.proofs.Uppers.{has_upper, HasUpper}
 use Rattle.plain_data.proofs.Lists.{slice_get_push, slice_get-append_cons, All-slice_get}
 use Rattle.row_sums.specs.Parts.{Part, the_constant, the_coefficient, part_of, row_part, IsWithin}
@@ -99,11 +99,6 @@ own_fact context more row ts n is n_is ts_is =
     (subst (IsFact (record context { rows = rows }) 65536 (form_parts row))
     (sym (ts_is ∙ ap (λ n. term_of n ∷ []) n_is)) own)
 
--- the opposite of a form
-pub opposite_is : (b : ℕ) (f other : Form) → b ≤ 2 ^ 60 → IsWithin b f → negation_of f ≡ Some other → other
-    ≡ opposite_form f
-opposite_is b f other le h is = same_Some other (opposite_form f) (sym is ∙ opposite_fits f (IsWithin-weaker b (2 ^ 60) f le h))
-
 pub opposite_long : (f : Form) → length (opposite_form f).coefs ≡ length f.coefs
 opposite_long f = length-sums (form_product (negsuc 0) f).coefs _
     (negative_over f ∙ sym (length_zeros (length f.coefs))) ∙ negative_over f
@@ -119,7 +114,7 @@ pub added_contradicts : (w : Writes) (edges : List Edge) (context more : System)
     → negation_of cycle.form ≡ Some row → IsMore context more row → n ≡ length context.rows → ts ≡ term_of n ∷ []
     → IsContradiction more.vars more.rows edges ts cycle.terms
 added_contradicts w edges context more cycle row ts n vars_is c opposite is n_is ts_is =
-    let row_is : row ≡ opposite_form cycle.form = opposite_is (2 ^ 40) cycle.form row (omega arith) c.within opposite in
+    let row_is : row ≡ opposite_form cycle.form = negation_of-some (2 ^ 40) cycle.form row (omega arith) c.within opposite in
     let own : IsFact more 65536 (form_parts (opposite_form cycle.form)) ts =
     subst (λ f. IsFact more 65536 (form_parts f) ts) row_is (own_fact context more row ts n is n_is ts_is) in
     opposite_contradicts w.vars more edges cycle ts (ap (λ (s : System). s.vars) is ∙ vars_is) c own
@@ -130,20 +125,20 @@ pub known_contradicts : (w : Writes) (edges : List Edge) (context : System) (cyc
     → negation_of cycle.form ≡ Some row → IsFact context 65536 (form_parts row) ts
     → IsContradiction context.vars context.rows edges ts cycle.terms
 known_contradicts w edges context cycle row ts vars_is c opposite fact =
-    let row_is : row ≡ opposite_form cycle.form = opposite_is (2 ^ 40) cycle.form row (omega arith) c.within opposite in
+    let row_is : row ≡ opposite_form cycle.form = negation_of-some (2 ^ 40) cycle.form row (omega arith) c.within opposite in
     opposite_contradicts w.vars context edges cycle ts vars_is c
     (subst (λ f. IsFact context 65536 (form_parts f) ts) row_is fact)
 
 pub cycle_row_over : (w : Writes) (edges : List Edge) (cycle : Cycle) (row : Form)
     → IsCycle w.vars edges cycle → negation_of cycle.form ≡ Some row → length row.coefs ≡ w.vars
 cycle_row_over w edges cycle row c opposite =
-    ap (λ (f : Form). length f.coefs) (opposite_is (2 ^ 40) cycle.form row (omega arith) c.within opposite)
+    ap (λ (f : Form). length f.coefs) (negation_of-some (2 ^ 40) cycle.form row (omega arith) c.within opposite)
     ∙ opposite_long cycle.form ∙ c.over
 
 pub cycle_row_small : (w : Writes) (edges : List Edge) (cycle : Cycle) (row : Form)
     → IsCycle w.vars edges cycle → negation_of cycle.form ≡ Some row → IsWithin (2 ^ 41) row
 cycle_row_small w edges cycle row c opposite =
-    subst (IsWithin (2 ^ 41)) (sym (opposite_is (2 ^ 40) cycle.form row (omega arith) c.within opposite))
+    subst (IsWithin (2 ^ 41)) (sym (negation_of-some (2 ^ 40) cycle.form row (omega arith) c.within opposite))
     (opposite_small (2 ^ 40) cycle.form (omega arith) c.within)
 
 -- What is confirmed
@@ -276,7 +271,7 @@ pub next_other : (context below : System) (choice next : Choice) (form above row
     → negation_of above ≡ Some row → IsMore context below row
     → IsNextChoice context below (Some form) choice next
 next_other context below choice next form above row own n parts small is n_is own_is opposite more =
-    let row_is : row ≡ opposite_form above = opposite_is (2 ^ 60) above row (omega arith) small opposite in
+    let row_is : row ≡ opposite_form above = negation_of-some (2 ^ 60) above row (omega arith) small opposite in
     let shown : IsFact below 65536 (form_parts row) own = own_fact context below row own n more n_is own_is in
     record {
       follows = λ depth bounds edges v done h at.

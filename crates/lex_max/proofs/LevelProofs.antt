@@ -16,6 +16,7 @@ use Rattle.int_polyhedra.specs.declared.system.Proof.{Proof}
 use Rattle.int_polyhedra.specs.declared.system.System.{System}
 use Rattle.int_polyhedra.specs.declared.system.Term.{Term}
 use Rattle.sanlp.specs.Order.{common_loops}
+use Rattle.sanlp.proofs.Precedence.{common_loops-same}
 use Rattle.lex_max.specs.Answer.{IsAnswer, IsContextOf}
 use Rattle.difference_graphs.specs.Asked.{depth_of_write, read_of, write_of, IsAsked}
 use Rattle.lex_max.specs.Choices.{chosen_place, AreCerts, AreChosen, AreReady}
@@ -29,7 +30,6 @@ use Rattle.lex_max.specs.declared.decide.Choice.{Choice}
 use Rattle.difference_graphs.specs.declared.edges.Edge.{Edge}
 use Rattle.difference_graphs.specs.declared.writes.Writes.{Writes}
 use Rattle.lex_max.proofs.After.{between_refuted}
-use Rattle.difference_graphs.proofs.ProblemBounds.{common_same}
 use Rattle.lex_max.proofs.LeafProofs.{certs_shown, few_levels, leaf_of, level_of_place}
 use Rattle.lex_max.proofs.LeafProofs.{order_certs, plain_leaf, plain_of, proofs_more, proofs_whole, shown_count}
 use Rattle.lex_max.proofs.LeafProofs.{shown_first, shown_rest}
@@ -91,7 +91,7 @@ between_next w edges here level choices proof old middle new inside p h is c con
     let depth : ℕ = depth_of_write w in
     let more : ℕ = c.vars + depth in
     let points : List Form = writer_place c (write_of w) in
-    let common_is : common_loops ls ls ≡ depth = common_same ls in
+    let common_is : common_loops ls ls ≡ depth = common_loops-same ls in
     let long : length points ≡ depth = length_variables c.vars depth in
     let own : AreTaken more points = variables_taken more c.vars depth (omega arith) in
     let ys : AreTaken more place =
@@ -122,7 +122,7 @@ between_all w edges bounds here n place old new ready n_is h c context leaf =
     subst (λ systems. AddsProofs systems old new) (sym
     (later_system (read_of w) (write_of w) w.level c s.level place s.level_is))
     (proofs_whole (between_system w c s.level) (further_levels w c place) n old new
-    (omega (arith, fewer, common_same ls, n_is)) (h c context leaf s))
+    (omega (arith, fewer, common_loops-same ls, n_is)) (h c context leaf s))
 
 -- The reader before the leaf's point
 

@@ -10,6 +10,7 @@ use Rattle.std.specs.Option.{option_map}
 use Rattle.std.proofs.lemmas.Option.{same_Some, slice_get-map}
 use Rattle.affine_core.specs.declared.form.Form.{Form}
 use Rattle.plain_data.proofs.Options.{option_map-some}
+use Rattle.plain_data.proofs.Lists.{slice_get-append_right}
 use Rattle.source_tree.specs.Places.{order_rows, same_rows}
 use Rattle.source_tree.specs.Rows.{RowExpr, Take, equal_rows, minus, one_less}
 
@@ -27,10 +28,6 @@ pub record AreOfLevel (c l : ℕ) (a b : List Form) (rows : List RowExpr) : Type
       → slice_get rows (2 * i + 1) ≡ Some (later_row v x)
   pub at : (v x : Form) → l < c → slice_get a l ≡ Some v → slice_get b l ≡ Some x → slice_get rows (2 * l)
       ≡ Some (sooner_row v x)
-
--- two rows before others
-behind_two : (x y : RowExpr) (rows : List RowExpr) (k : ℕ) → slice_get (x ∷ y ∷ rows) (2 + k) ≡ slice_get rows k
-behind_two x y rows k = let e : 2 + k ≡ suc (suc k) = omega arith in ap (slice_get (x ∷ y ∷ rows)) e
 
 pub of_level : (c l : ℕ) (less : Bool) (a b : List Form) (rows : List RowExpr) → slice_get (order_rows c less a b) l
     ≡ Some rows → AreOfLevel c l a b rows
@@ -59,7 +56,7 @@ of_level (suc c) (suc l) less (v ∷ a) (x ∷ b) rows e =
     let first : RowExpr = minus (Take v) (Take x) in
     let second : RowExpr = minus (Take x) (Take v) in
     let at_rest : (k : ℕ) → slice_get rows (2 + k) ≡ slice_get i.0 k =
-    λ k. ap (λ rows. slice_get rows (2 + k)) (sym i.2) ∙ behind_two first second i.0 k in
+    λ k. ap (λ rows. slice_get rows (2 + k)) (sym i.2) ∙ slice_get-append_right (first ∷ second ∷ []) i.0 k in
     record {
       above = above v a x b rows i.0 (ap (λ rows. slice_get rows 1) (sym i.2)) at_rest inner;
       at = λ v' x' lt v_is x_is. (let k : 2 * suc l ≡ 2 + 2 * l = omega arith in ap (slice_get rows) k ∙ at_rest (2 * l)
@@ -88,5 +85,6 @@ same_at (v' ∷ a) (x' ∷ b) zero v x e f =
     ap (λ v. Some (later_row v x')) vs ∙ ap (λ x. Some (later_row v x)) xs
 same_at (v' ∷ a) (x' ∷ b) (suc i) v x e f =
     let k : 2 * suc i + 1 ≡ 2 + (2 * i + 1) = omega arith in
-    ap (slice_get (same_rows (v' ∷ a) (x' ∷ b))) k ∙ behind_two (minus (Take v') (Take x')) (minus (Take x') (Take v'))
-    (same_rows a b) (2 * i + 1) ∙ same_at a b i v x e f
+    ap (slice_get (same_rows (v' ∷ a) (x' ∷ b))) k
+    ∙ slice_get-append_right (minus (Take v') (Take x') ∷ minus (Take x') (Take v') ∷ []) (same_rows a b) (2 * i + 1)
+    ∙ same_at a b i v x e f

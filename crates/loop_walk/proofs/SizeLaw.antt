@@ -291,9 +291,9 @@ turns_of_assignments parts at (value ∷ values) h =
     (length parts) measured_one (assignments_measured parts (at ++ value ∷ []) h))
     (turns_of_assignments parts at values h))
 
-length_counted : (a : ℤ) (n : ℕ) → length (counted_from a n) ≡ n
-length_counted a zero = refl
-length_counted a (suc n) = ap suc (length_counted (a +ℤ pos 1) n)
+pub length-counted : (a : ℤ) (n : ℕ) → length (counted_from a n) ≡ n
+length-counted a zero = refl
+length-counted a (suc n) = ap suc (length-counted (a +ℤ pos 1) n)
 
 -- the turns of a loop whose body has nothing but assignments
 pub equal_turns : (parts : List Node) (at : List ℤ) (first last : ℤ) (count : ℕ) → count ≤ size_limit
@@ -302,5 +302,5 @@ pub equal_turns : (parts : List Node) (at : List ℤ) (first last : ℤ) (count 
     ≡ counted_turns (map counted_node parts) at (interval first last) count
 equal_turns parts at first last count le h =
     ap (λ turns. capped (count + turns * (1 + length parts)))
-    (sym (length_counted first (natural (last +ℤ pos 1 -ℤ first))))
+    (sym (length-counted first (natural (last +ℤ pos 1 -ℤ first))))
     ∙ sym ((turns_of_assignments parts at (interval first last) h).counts count le refl)

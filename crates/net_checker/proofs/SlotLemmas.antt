@@ -3,30 +3,22 @@
 -- A list of slots is what `slot_at` gives for each number below the count. Filling one slot changes that function at this number
 -- alone: in the row by its place there, and else in the map, which no number of the row asks. A slot past the count changes no
 -- element of the list, and so does `slice_set` past its end.
-use Rattle.std.proofs.Common.{◌≡◌, ℕ, zero, suc, ◌<◌, ◌≤◌, cond, ltb, Option, Some, None, List, []}
+use Rattle.std.proofs.Common.{◌≡◌, ℕ, ◌<◌, ◌≤◌, cond, ltb, Option, Some, None, List, []}
 use Rattle.std.proofs.Common.{◌+◌, ◌∷◌, ◌++◌, length, map, replicate, set, take, get_or, slice_get, refl, sym, ap, ap₂, ◌∙◌, inl, inr, arith, add-one}
 use Rattle.std.proofs.Common.{get_or-set_same, get_or-set_other, length-set, lt-ltb, eq-eqb, ne_eqb}
 use Rattle.std.specs.List.{range_with_len}
-use Rattle.std.specs.Prelude.{◌==◌, slice_set}
-use Rattle.std.specs.Ordering.{nat_cmp, is_eq}
+use Rattle.std.specs.Prelude.{slice_set}
+use Rattle.std.specs.Ordering.{nat_cmp}
 use Rattle.std.specs.BTreeMap.{get, is_at}
 use Rattle.std.specs.Map.{lookup}
 use Rattle.std.proofs.lemmas.Bool.{cases_eq, cases_lt, cond-true, cond-false, le-ltb}
-use Rattle.std.proofs.lemmas.Bool.Decides.{nat_tests}
 use Rattle.std.proofs.lemmas.List.FromFn.{fill_by_all, get_or-map-range_with_len, length-map-range_with_len}
 use Rattle.std.proofs.lemmas.List.{get_or-map, length-replicate, map-append, map-set}
-use Rattle.plain_data.proofs.Lists.{take-suc_some}
+use Rattle.plain_data.proofs.Lists.{take-suc_some, get_or-replicate_same}
+use Rattle.plain_data.proofs.Tests.{is_eq-nat_cmp}
 use Rattle.std.proofs.lemmas.Option.{slice_get_past, slice_get-get_or}
 use Rattle.net_checker.specs.declared.slots.Slots.{Slots}
 use Rattle.net_checker.specs.SlotRows.{slot_at, slots_in}
-
-nat_is_eq : (x y : ℕ) → is_eq (nat_cmp x y) ≡ (x == y)
-nat_is_eq x y = grind (arith, nat_tests)
-
-all_none : {T : Type 0} (n k : ℕ) → get_or (replicate {A = Option T} n None) k None ≡ None
-all_none zero k = refl
-all_none (suc n) zero = refl
-all_none (suc n) (suc k) = all_none n k
 
 module _ {T : Type 0} (slots : Slots T) (k : ℕ) where
   -- a slot of the row
@@ -62,11 +54,11 @@ all_empty {T} slots row is none =
 
     each : (k : ℕ) → k < slots.count → get_or (replicate slots.count None) k None ≡ slot_at slots k
     each k lt =
-        all_none slots.count k
+        get_or-replicate_same slots.count k None
         ∙ elim (cases_lt k (length slots.row.items)) [
           | inl there ↦
               sym (in_row slots k there ∙ ap (λ (xs : List (Option T)). get_or xs k None) is
-              ∙ all_none row k)
+              ∙ get_or-replicate_same row k None)
           | inr past ↦ sym (in_map slots k past ∙ ap (lookup (is_at (nat_cmp k))) none)
         ]
 
@@ -122,7 +114,7 @@ pub filled_map : {T : Type 0} (old new : Slots T) (slot : ℕ) (x : T) → new.c
 filled_map {T} old new slot x count past row others =
     filled old new slot x count
     (in_map new slot (omega (arith, long)) ∙ others slot
-    ∙ cond-true (is_at (nat_cmp slot) slot) (Some x) _ (nat_is_eq slot slot ∙ eq-eqb slot slot refl)) other
+    ∙ cond-true (is_at (nat_cmp slot) slot) (Some x) _ (is_eq-nat_cmp slot slot ∙ eq-eqb slot slot refl)) other
   where
     long : length new.row.items ≡ length old.row.items
     long = ap length row
@@ -135,7 +127,7 @@ filled_map {T} old new slot x count past row others =
       | inr le ↦
           in_map new k (omega (arith, long)) ∙ others k
           ∙ cond-false (is_at (nat_cmp slot) k) (Some x) _
-          (nat_is_eq slot k ∙ ne_eqb slot k (λ e. apart (sym e))) ∙ sym (in_map old k le)
+          (is_eq-nat_cmp slot k ∙ ne_eqb slot k (λ e. apart (sym e))) ∙ sym (in_map old k le)
     ]
 
 -- Rows of slots, one for each process

@@ -5,7 +5,7 @@
 -- first turn of the queue into the slot as the tag of the channel's writer; a Fire adds one to the process's fires, and so the
 -- next of its tags to what it has kept; a Put adds the turn of the last of these. That each place holds what it names, and that
 -- queues hold what was put and not got, then follows from the machine's own laws. Which event may come isn't asked here.
-use Rattle.std.proofs.Common.{◌≡◌, ℕ, zero, suc, pred, ◌+◌, ◌-◌, ◌<◌, ◌≤◌, ◌^◌, true, false, Option, Some, None, List, [], ◌∷◌, ◌++◌}
+use Rattle.std.proofs.Common.{◌≡◌, ℕ, zero, suc, pred, ◌+◌, ◌<◌, ◌≤◌, ◌^◌, true, false, Option, Some, None, List, [], ◌∷◌, ◌++◌}
 use Rattle.std.proofs.Common.{length, map, drop, replicate, set, get_or, slice_get, refl, sym, ap, ap₂, ◌∙◌}
 use Rattle.std.proofs.Common.{subst, inl, inr, arith, add-one, eqb, eq-eqb, ne_eqb, length-set, get_or-set_same, get_or-set_other, ltb-true}
 use Rattle.std.specs.Option.{option_map_or}
@@ -277,10 +277,6 @@ module _ (n : Net) (state : TagState) (is_state : IsTagState n state) (p : ℕ) 
 pub record IsStepped (n : Net) (old new : TagState) (p : ℕ) : Type 0 where
   pub run : state_of n new ≡ step n tags (state_of n old) p
   pub state : IsTagState n new
-
-pub one_less : (n : ℕ) → n - 1 ≡ pred n
-one_less zero = refl
-one_less (suc n) = omega arith
 
 -- a list's first element and the others
 first_and_rest : (xs : List ℕ) → 0 < length xs → xs ≡ get_or xs 0 0 ∷ drop 1 xs

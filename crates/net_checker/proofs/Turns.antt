@@ -31,7 +31,7 @@ use Rattle.sanlp.specs.Tags.{tag_at}
 use Rattle.sanlp.specs.Trace.{trace}
 use Rattle.sanlp.proofs.Enumerates.{enumerates_domains}
 use Rattle.sanlp.proofs.NestFacts.{trace_within}
-use Rattle.sanlp.proofs.Precedence.{IsDecided, decided, loops_found}
+use Rattle.sanlp.proofs.Precedence.{IsDecided, decided, loops_found, common_loops-same}
 use Rattle.source_tree.specs.declared.tree.Found.{Found}
 use Rattle.source_tree.specs.declared.tree.Found.TheVariants.{At}
 use Rattle.source_tree.specs.declared.tree.Tree.{Tree}
@@ -41,7 +41,6 @@ use Rattle.source_tree.proofs.TreeValues.{eval_gives}
 use Rattle.net_core.specs.Shape.{turns}
 use Rattle.net_core.proofs.Entries.{entry_at_turn, turn_of_entry}
 use Rattle.net_core.proofs.FireValues.{turn_entry, vectors_at}
-use Rattle.source_check.proofs.Orders.{common_same}
 use Rattle.net_checker.specs.Tables.{AreInOrder, GivesTag}
 use Rattle.plain_data.proofs.Tests.{ltb-same}
 
@@ -142,7 +141,7 @@ module _ (n : Nest) where
       let ks : List ℕ = loops_round_point n p in
       let ls : List ℕ = loops_round_point n q in
       let alike : ks ≡ ls = ap (λ s. option_map_or (λ (s : Statement). s.loops) (slice_get n.statements s) []) same in
-      let common : common_loops ks ls ≡ length ks = sym (ap (common_loops ks) alike) ∙ common_same ks in
+      let common : common_loops ks ls ≡ length ks = sym (ap (common_loops ks) alike) ∙ common_loops-same ks in
       let deep_p : length p.at ≡ length ks = a.deep ∙ ap length (sym (loops_found n p a.statement a.found)) in
       let deep_q : length q.at ≡ length ks = b.deep ∙ ap length (sym (loops_found n q b.statement b.found))
       ∙ ap length (sym alike) in

@@ -32,17 +32,12 @@ use Rattle.net_core.proofs.CountedLists.{set_at}
 use Rattle.net_core.proofs.CutOrder.{advanced_here, advanced_there}
 use Rattle.net_core.proofs.Positions.{gets_advanced, puts_advanced}
 use Rattle.net_core.proofs.Ready.{count_all, script_short}
-use Rattle.plain_data.proofs.Lists.{slice_get-drop}
+use Rattle.plain_data.proofs.Lists.{drop-some, get_or-replicate_same, slice_get-drop}
 
 -- At first
 
-no_place : (m p : ℕ) → slice_index (replicate m 0) p ≡ 0
-no_place zero p = refl
-no_place (suc m) zero = refl
-no_place (suc m) (suc p) = no_place m p
-
 pub no_places : (m : ℕ) → slice_index (replicate m 0) ≡ opening
-no_places m = fun_ext (no_place m)
+no_places m = fun_ext (λ p. get_or-replicate_same m p 0)
 
 script_at : (processes : List Process) (p : ℕ)
     → get_or (map (λ process. process.script) processes) p []
@@ -143,18 +138,11 @@ advanced_list positions p value lt is =
 
 -- What is left after it
 
-pub some_left : {X : Type 0} (xs : List X) (k : ℕ) (x : X) → slice_get xs k ≡ Some x → drop k xs ≡ x ∷ drop (suc k) xs
-some_left [] k x is = cc
-some_left (y ∷ xs) zero x is =
-    let same : y ≡ x = cc in
-    ap (λ z. z ∷ xs) same
-some_left (y ∷ xs) (suc k) x is = some_left xs k x is
-
 -- p's event is the first that it has left
 pub left_first : (n : Net) (k : Cut) (p : ℕ) (e : Event) → slice_get (n.script p) (k p) ≡ Some e
     → left_at n k p ≡ e ∷ left_at n (advanced k p) p
 left_first n k p e is =
-    some_left (n.script p) (k p) e is ∙ ap (λ i. e ∷ drop i (n.script p)) (sym (advanced_here k p p refl))
+    drop-some (n.script p) (k p) e is ∙ ap (λ i. e ∷ drop i (n.script p)) (sym (advanced_here k p p refl))
 
 left_more : (n : Net) (k : Cut) (p : ℕ) (lists : List (List Event)) (later : List Event)
     → lists ≡ map (left_at n k) (range_with_len 0 n.processes) → p < n.processes

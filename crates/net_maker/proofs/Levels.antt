@@ -19,6 +19,7 @@ use Rattle.source_tree.specs.declared.tree.Tree.TheViews.{Test, Divides, outs-Te
 use Rattle.source_tree.specs.declared.tree.Tree.TheViews.{outs-Zero, outs-Dead}
 use Rattle.tree_text.specs.TreeText.{FormIsInRange, PlaceIsInRange, ProofIsInRange, ProofStepIsInRange}
 use Rattle.tree_text.specs.TreeText.{ProofsAreInRange, TermIsInRange, TreeIsWithin, TreeStepIsInRange}
+use Rattle.tree_text.proofs.ReadBack.{no_proof}
 
 false_is : {P : Type 0} → (P → ⊥) → IsTrue false ↔ P
 false_is none = (λ (t : false ≡ true). absurd (cc), λ p. absurd (none p))
@@ -40,10 +41,6 @@ pub else_is : {P R : Type 0} (a : Bool) → (IsTrue a ↔ P) → a ≡ false →
 else_is a first is head = false_is (λ r. let e : a ≡ true = first.1 (head r) in cc)
 
 -- No level
-
-no_proof : (p : Proof) → ProofIsInRange 0 p → ⊥
-unfolding ProofIsInRange
-no_proof p h = h
 
 pub proof_ended : (levels : ℕ) (p : Proof) → levels ≡ 0 → IsTrue false ↔ ProofIsInRange levels p
 proof_ended levels p none = false_is (λ h. no_proof p (subst (λ (k : ℕ). ProofIsInRange k p) none h))

@@ -15,13 +15,13 @@ use Rattle.channel_plan.specs.Tokens.{tokens_below, turns_used, uses_of}
 use Rattle.channel_plan.proofs.Channels.{turns_within}
 use Rattle.channel_plan.proofs.Nests.{sources_among, turns_of_all}
 use Rattle.channel_plan.proofs.PlanEnds.{plans_of-plan_of}
-use Rattle.channel_plan.proofs.Uses.{below_turn, tokens_more}
+use Rattle.channel_plan.proofs.Uses.{below_turn, tokens_more, tokens_below-more}
 use Rattle.network_numbers.specs.Entries.{tokens_among}
 use Rattle.network_numbers.proofs.QueueCounts.{ends}
 use Rattle.network_numbers.proofs.WantedTurns.{front_needed, needed, turns_for}
 use Rattle.plan_numbers.specs.Numbers.{numbers_of, tokens_before}
 use Rattle.plan_numbers.proofs.Channels.{tokens_told}
-use Rattle.plan_numbers.proofs.Classes.{AreUsed, all_used, tokens_grow}
+use Rattle.plan_numbers.proofs.Classes.{AreUsed, all_used}
 use Rattle.reorder_slots.specs.Slots.{gets_for}
 use Rattle.sanlp.specs.declared.nest.Nest.{Nest}
 use Rattle.witness_plan.proofs.GetCounts.{turns_first}
@@ -41,7 +41,7 @@ turns_made n plan f = needed plan.writer (take f (sources_at n plan.reader plan.
 pub grown : (used : List ℕ) (a b : ℕ) → a ≤ b → tokens_below used a ≤ tokens_below used b
 grown used a b le =
     let rest : a + (b - a) ≡ b = omega arith in
-    omega (arith, tokens_grow used a (b - a), ap (tokens_below used) rest)
+    omega (arith, tokens_below-more used a (b - a), ap (tokens_below used) rest)
 
 greater : (used : List ℕ) (a b : ℕ) → tokens_below used (max a b) ≡ max (tokens_below used a) (tokens_below used b)
 greater used a b =

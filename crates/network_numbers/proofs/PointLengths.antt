@@ -5,10 +5,11 @@
 -- shrinks, so it is longest at their end (`greatest_without_gets`). So after a point the greatest length is that before
 -- it or that of the queue as it then stands, whichever is more (`greatest_point`): lengths within a point needn't be
 -- looked at. It is of lists of events alone; which Gets and Puts a point has doesn't come in.
-use Rattle.std.proofs.Common.{◌≡◌, ℕ, zero, suc, ◌+◌, ◌≤◌, max, false, cond, Some, List, [], ◌∷◌, ◌++◌}
+use Rattle.std.proofs.Common.{◌≡◌, ℕ, suc, ◌+◌, ◌≤◌, max, false, cond, Some, List, [], ◌∷◌, ◌++◌}
 use Rattle.std.proofs.Common.{length, replicate, slice_get, refl, sym, ap, ◌∙◌, subst, arith, append_assoc}
 use Rattle.std.proofs.Common.{length-append}
 use Rattle.std.proofs.lemmas.List.{append-nil}
+use Rattle.std.proofs.Math.ListN.{replicate-append-replicate}
 use Rattle.net_core.specs.declared.network.Event.{Event}
 use Rattle.net_core.specs.Cuts.{advanced, cut_after, gets_at, opening, puts_at}
 use Rattle.net_core.specs.Machine.{Net}
@@ -47,12 +48,6 @@ next_last script k [] ys h = let same : k ≡ k + 0 = omega arith in subst (λ i
 next_last script k (x ∷ xs) ys h =
     let same : suc k + length xs ≡ k + suc (length xs) = omega arith in
     subst (λ i. AreNext script i ys) same (next_last script (suc k) xs ys h.1)
-
-replicate_more : (a b p : ℕ) → replicate a p ++ replicate b p ≡ replicate (a + b) p
-replicate_more zero b p = let same : b ≡ 0 + b = omega arith in ap (λ m. replicate m p) same
-replicate_more (suc a) b p =
-    let next : suc (a + b) ≡ suc a + b = omega arith in
-    ap (λ ps. p ∷ ps) (replicate_more a b p) ∙ ap (λ m. replicate m p) next
 
 module _ (net : Net) (wired : IsWired net) (p c : ℕ) where
   -- one event more, and where its process then stands
@@ -155,7 +150,7 @@ module _ (net : Net) (wired : IsWired net) (p c : ℕ) where
       let whole : (schedule ++ replicate (length gets) p) ++ replicate (length rest) p
       ≡ schedule ++ replicate (length (gets ++ rest)) p =
       append_assoc schedule (replicate (length gets) p) (replicate (length rest) p)
-      ∙ ap (λ ps. schedule ++ ps) (replicate_more (length gets) (length rest) p)
+      ∙ ap (λ ps. schedule ++ ps) (replicate-append-replicate (length gets) (length rest) p)
       ∙ ap (λ m. schedule ++ replicate m p) (sym (length-append gets rest)) in
       let place : cut_after opening (schedule ++ replicate (length gets) p) p ≡ cut_after opening schedule p + length gets =
       ap (λ k. k p) (cut_after-append opening schedule (replicate (length gets) p))

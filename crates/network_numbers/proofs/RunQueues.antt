@@ -3,12 +3,12 @@
 -- The loop goes through the channels of the run's process and puts in the place of each what the run makes of its counts. A
 -- channel of which the process is at no end keeps its counts (`idle`), so at the end each channel's counts are what the run
 -- makes of them (`run_done`; each place is changed once, by PassedQueues). There is a queue for each channel.
-use Rattle.std.proofs.Common.{◌≡◌, ◌<◌, ◌+◌, ◌==◌, ◌||◌, ◌&&◌, ◌≤◌, ℕ, zero, suc, max, Bool, true, false, cond, Option, Some, None, List}
+use Rattle.std.proofs.Common.{◌≡◌, ◌<◌, ◌+◌, ◌==◌, ◌&&◌, ◌≤◌, ℕ, zero, suc, max, Bool, true, false, cond, Option, Some, None, List}
 use Rattle.std.proofs.Common.{◌∷◌, map, length, take, drop, get_or, slice_get, refl, sym, ap, ◌∙◌, inl, inr, arith, length-set}
 use Rattle.std.specs.Prelude.{All, slice_index_or, slice_set}
 use Rattle.std.specs.List.{filter, fold, range_with_len}
 use Rattle.std.specs.Option.{option_map_or}
-use Rattle.std.proofs.lemmas.Bool.{cases_Bool, false≢true}
+use Rattle.std.proofs.lemmas.Bool.{cases_Bool, or_parts}
 use Rattle.std.proofs.lemmas.List.{ext_get_or}
 use Rattle.std.proofs.lemmas.List.Elements.{All-cons, All-nil}
 use Rattle.std.proofs.lemmas.List.FromFn.{get_or-map-range_with_len, length-map-range_with_len}
@@ -48,15 +48,10 @@ pub channels_below : (plans : List PlanNumbers) (p : ℕ) → All (λ c. c < len
 channels_below plans p =
     all_below (λ c. option_map_or (has_end_at p) (slice_get plans c) false) 0 (length plans) (length plans) (omega arith)
 
--- a channel of which the process is at no end
-neither : (a b : Bool) → (a || b) ≡ false → (a ≡ false) × (b ≡ false)
-neither true b h = absurd (false≢true (sym h))
-neither false b h = (refl, h)
-
 pub idle : (plan : PlanNumbers) (p : ℕ) (sources : List (Option Tag)) (f count : ℕ) (queue : QueueCounts)
     → has_end_at p plan ≡ false → after_turns plan p sources f count queue ≡ queue
 idle plan p sources f count queue none =
-    let ends = neither (plan.reader == p) (plan.writer == p) none in
+    let ends = or_parts (plan.reader == p) (plan.writer == p) none in
     let wanted : cond (plan.reader == p) (wanted_after plan sources queue.wanted) queue.wanted ≡ queue.wanted =
     ap (λ b. cond b (wanted_after plan sources queue.wanted) queue.wanted) ends.0 in
     let greatest : cond (plan.writer == p)

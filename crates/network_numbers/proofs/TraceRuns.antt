@@ -17,11 +17,12 @@ use Rattle.std.proofs.lemmas.List.Concat.{get_or-flat_map}
 use Rattle.std.proofs.lemmas.List.Folds.{length-flat_map-take}
 use Rattle.std.proofs.lemmas.Option.{get_or_from_slice_get, slice_get-map}
 use Rattle.std.specs.Option.{option_map}
+use Rattle.loop_walk.proofs.SizeLaw.{length-counted}
 use Rattle.net_core.proofs.EventCounts.{count_next}
 use Rattle.network_numbers.specs.declared.runs.FireRun.{FireRun}
 use Rattle.network_numbers.specs.Runs.{processes_in, processes_of}
 use Rattle.plain_data.proofs.Lists.{slice_get-some}
-use Rattle.sanlp.specs.Cells.{counted, natural}
+use Rattle.sanlp.specs.Cells.{natural}
 use Rattle.sanlp.specs.Loops.{interval}
 use Rattle.sanlp.specs.Trace.{PointsAt, all_points, trace, trace_node, trace_step, turn_points}
 use Rattle.sanlp.specs.declared.nest.Nest.{Nest}
@@ -91,10 +92,6 @@ module _ (body : List Node) (at : List ℤ) (value last : ℤ) (before all : Lis
       (sym (interval_end value last lt))
       ∙ gone
 
-length_counted : (a : ℤ) (n : ℕ) → length (counted a n) ≡ n
-length_counted a zero = refl
-length_counted a (suc n) = ap suc (length_counted (a +ℤ pos 1) n)
-
 -- the turns of a loop over one assignment
 pub one_run : (s : ℕ) (body : List Node) (first last : ℤ) (at : List ℤ) → body ≡ Assign s ∷ []
     → processes_of (turn_points (all_points (map trace_node body)) (interval first last) at)
@@ -102,7 +99,7 @@ pub one_run : (s : ℕ) (body : List Node) (first last : ℤ) (at : List ℤ) �
 one_run s body first last at is =
     ap (λ (parts : List Node). processes_of (turn_points (all_points (map trace_node parts)) (interval first last) at)) is
     ∙ each (interval first last)
-    ∙ ap (λ n. replicate n s) (length_counted first (natural (last +ℤ pos 1 -ℤ first)))
+    ∙ ap (λ n. replicate n s) (length-counted first (natural (last +ℤ pos 1 -ℤ first)))
   where
     each : (vs : List ℤ)
         → processes_of (turn_points (all_points (map trace_node (Assign s ∷ []))) vs at) ≡ replicate (length vs) s

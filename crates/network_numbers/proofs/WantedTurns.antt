@@ -4,25 +4,18 @@
 -- were wanted before (`folded`, by induction along the sources). What two lists of sources want together is the greater of
 -- what each wants (`joined`), so a front of the sources and the sources behind it make a longer front (`behind`). Which turns
 -- are tokens is no question here.
-use Rattle.std.proofs.Common.{◌≡◌, ◌≤◌, ◌<◌, ◌+◌, ℕ, zero, suc, max, List, [], ◌∷◌, ◌++◌, map, length, take, drop, get_or}
-use Rattle.std.proofs.Common.{refl, sym, ap, ◌∙◌, arith}
+use Rattle.std.proofs.Common.{◌≡◌, ◌≤◌, ◌<◌, ◌+◌, ℕ, max, List, [], ◌∷◌, ◌++◌, map, length, take, drop, get_or}
+use Rattle.std.proofs.Common.{refl, ap, ◌∙◌, arith, take-add}
 use Rattle.std.specs.Prelude.{Option, Some, None}
 use Rattle.std.specs.List.{cons_option, fold, range_with_len}
 use Rattle.std.specs.Option.{option_map_or}
-use Rattle.std.proofs.lemmas.List.{map-append, take-append-drop, take_all, take_more}
+use Rattle.std.proofs.lemmas.List.{map-append, take-append-drop, take_more}
 use Rattle.std.proofs.lemmas.List.Sums.{fold-append}
 use Rattle.channel_plan.specs.Tokens.{turn_of, turns_used}
 use Rattle.network_numbers.specs.Entries.{turns_wanted}
 use Rattle.reorder_slots.specs.Slots.{gets_for}
 use Rattle.sanlp.proofs.Lists.{range_with_len_more}
 use Rattle.sanlp.specs.declared.nest.Tag.{Tag}
-
-pub take_sum : {X : Type 0} (a b : ℕ) (xs : List X) → take (a + b) xs ≡ take a xs ++ take b (drop a xs)
-take_sum zero b xs = (let none : 0 + b ≡ b = omega arith in ap (λ n. take n xs) none)
-take_sum (suc a) b [] = take_all (suc a + b) [] (omega arith) ∙ sym (take_all b [] (omega arith))
-take_sum (suc a) b (x ∷ xs) =
-    let next : suc a + b ≡ suc (a + b) = omega arith in
-    ap (λ n. take n (x ∷ xs)) next ∙ ap (λ ys. x ∷ ys) (take_sum a b xs)
 
 -- how many turns these need: 1 and the greatest of them
 abbrev pub turns_for : List ℕ → ℕ
@@ -62,7 +55,7 @@ module _ (w : ℕ) where
   pub behind : (f m : ℕ) (sources : List (Option Tag)) (before : ℕ) → before ≡ needed (take f sources)
       → fold max before (map (turns_wanted w) (take m (drop f sources))) ≡ needed (take (f + m) sources)
   behind f m sources before e =
-      let all = ap needed (take_sum f m sources) in
+      let all = ap needed (take-add f m sources) in
       omega (arith, folded (take m (drop f sources)) before, joined (take f sources) (take m (drop f sources)), all, e)
 
   -- a front needs no more than all

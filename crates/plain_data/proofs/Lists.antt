@@ -1,12 +1,15 @@
 -- Items of lists at a place, as options: of joined lists, of fronts and ends, and what holds of each. Std reads an
 -- item with `get_or`, which asks for a default; these go by `slice_get`.
-use Rattle.std.proofs.Common.{◌≡◌, ℕ, zero, suc, ◌+◌, ◌<◌, ◌≤◌, List, [], ◌∷◌, ◌++◌, length, take, drop, get_or, replicate}
+use Rattle.std.proofs.Common.{◌≡◌, ℕ, zero, suc, ◌+◌, ◌-◌, ◌<◌, ◌≤◌, List, [], ◌∷◌, ◌++◌, length, take, drop, get_or, replicate}
 use Rattle.std.proofs.Common.{Some, slice_get, All, Contains, flat_map, map, sum_by, refl, ap, ◌∙◌, sym, subst, arith, add-one}
-use Rattle.std.specs.List.{range_with_len}
+use Rattle.std.proofs.Common.{length-drop}
+use Rattle.std.specs.List.{AllZip, range_with_len}
 use Rattle.std.proofs.lemmas.List.Elements.{All-nil, All-cons, All-append, Contains-append_right}
 use Rattle.std.proofs.lemmas.List.FromFn.{get_or-range_with_len}
 use Rattle.std.proofs.lemmas.List.Sums.{sum_by_more}
 use Rattle.std.proofs.lemmas.Option.{same_Some, slice_get_within, slice_get_read, get_or_from_slice_get}
+pub use Rattle.std.proofs.iter.runs.Lists.{nth_left as slice_get-append_left, nth_right as slice_get-append_right}
+pub use Rattle.std.proofs.iter.runs.Lists.{nth_seam as slice_get_push}
 
 -- The item at a place
 
@@ -27,26 +30,10 @@ slice_get-append_some [] ys k x e = cc
 slice_get-append_some (y ∷ xs) ys zero x e = e
 slice_get-append_some (y ∷ xs) ys (suc k) x e = slice_get-append_some xs ys k x e
 
-pub slice_get-append_left : {A : Type 0} (xs ys : List A) (k : ℕ) → k < length xs
-    → slice_get (xs ++ ys) k ≡ slice_get xs k
-slice_get-append_left [] ys k lt = absurd (omega arith)
-slice_get-append_left (x ∷ xs) ys zero lt = refl
-slice_get-append_left (x ∷ xs) ys (suc k) lt = slice_get-append_left xs ys k (omega arith)
-
-pub slice_get-append_right : {A : Type 0} (xs ys : List A) (k : ℕ)
-    → slice_get (xs ++ ys) (length xs + k) ≡ slice_get ys k
-slice_get-append_right [] ys k = let e : 0 + k ≡ k = omega arith in ap (slice_get ys) e
-slice_get-append_right (x ∷ xs) ys k =
-    let e : suc (length xs) + k ≡ suc (length xs + k) = omega arith in
-    ap (slice_get (x ∷ (xs ++ ys))) e ∙ slice_get-append_right xs ys k
-
 pub slice_get-append_cons : {A : Type 0} (xs : List A) (y : A) (ys : List A)
     → slice_get (xs ++ y ∷ ys) (length xs) ≡ Some y
 slice_get-append_cons [] y ys = refl
 slice_get-append_cons (x ∷ xs) y ys = slice_get-append_cons xs y ys
-
-pub slice_get_push : {A : Type 0} (xs : List A) (y : A) → slice_get (xs ++ y ∷ []) (length xs) ≡ Some y
-slice_get_push xs y = slice_get-append_cons xs y []
 
 pub slice_get_push_at : {A : Type 0} (xs : List A) (y : A) (k : ℕ) → k ≡ length xs → slice_get (xs ++ y ∷ []) k ≡ Some y
 slice_get_push_at xs y k e = ap (slice_get (xs ++ y ∷ [])) e ∙ slice_get_push xs y
@@ -85,6 +72,18 @@ drop_parts [] (suc k) x left e = absurd (cc)
 drop_parts (y ∷ xs) zero x left e = (let f : y ≡ x = cc in ap Some f, let f : xs ≡ left = cc in f)
 drop_parts (y ∷ xs) (suc k) x left e = drop_parts xs k x left e
 
+-- of an end that is left of a list, the first item and what is left behind it
+module _ {A : Type 0} (xs left later : List A) (x : A) (is : drop (length xs - length left) xs ≡ left)
+    (first : left ≡ x ∷ later) where
+  pub left-first : slice_get xs (length xs - length left) ≡ Some x
+  left-first = (drop_parts xs (length xs - length left) x later (is ∙ first)).0
+
+  pub left-length : length xs - length later ≡ suc (length xs - length left)
+  left-length = omega (arith, length-drop (length xs - length left) xs, ap length is, ap length first)
+
+  pub left-later : drop (length xs - length later) xs ≡ later
+  left-later = ap (λ k. drop k xs) left-length ∙ (drop_parts xs (length xs - length left) x later (is ∙ first)).1
+
 -- as it is read from a list that is this one
 pub drop_read_same : {A : Type 0} (xs ys : List A) (k : ℕ) (x : A) → ys ≡ xs → k < length ys → x ≡ get_or ys k x
     → drop k xs ≡ x ∷ drop (k + 1) xs
@@ -111,6 +110,13 @@ pub All-range_with_len : (a n b : ℕ) → a + n ≤ b → All (λ k. k < b) (ra
 All-range_with_len a zero b le = All-nil (λ k. k < b)
 All-range_with_len a (suc n) b le =
     All-cons (λ k. k < b) a (range_with_len (a + 1) n) (omega arith) (All-range_with_len (a + 1) n b (omega arith))
+
+pub AllZip-push : {A B : Type 0} (P : A → B → Type 0) (xs : List A) (ys : List B) (x : A) (y : B) → AllZip P xs ys
+    → P x y → AllZip P (xs ++ x ∷ []) (ys ++ y ∷ [])
+AllZip-push P [] [] x y all one = (one, tt)
+AllZip-push P [] (b ∷ ys) x y all one = absurd all
+AllZip-push P (a ∷ xs) [] x y all one = absurd all
+AllZip-push P (a ∷ xs) (b ∷ ys) x y all one = (all.0, AllZip-push P xs ys x y all.1 one)
 
 pub map-same : {A B : Type 0} (f g : A → B) → ((x : A) → f x ≡ g x) → (xs : List A) → map f xs ≡ map g xs
 map-same f g same [] = refl

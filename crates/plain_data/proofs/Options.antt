@@ -1,7 +1,10 @@
--- An option that comes of another one: what it says of that one where it has a value.
-use Rattle.std.proofs.Common.{◌≡◌, ℕ, Option, Some, None, IfSome, is_some, option_map, option_and_then, List, [], ◌∷◌, map}
-use Rattle.std.proofs.Common.{false, ◌⊎◌, inl, inr, refl, ap, subst}
+-- An option that comes of another one: what it says of that one where it has a value. And what holds at an error
+-- because it holds anyhow.
+use Rattle.std.proofs.Common.{◌≡◌, ℕ, Option, Some, None, IfSome, option_map, option_and_then, List, [], ◌∷◌, map}
+use Rattle.std.proofs.Common.{Result, Ok, Err, ◌⊎◌, inl, inr, refl, ap, subst}
+use Rattle.std.specs.Result.{OnErr}
 use Rattle.std.proofs.lemmas.Option.{same_Some}
+pub use Rattle.std.proofs.option.Match.{None-if_not_some as is_some-false}
 
 pub option_map-some : {A B : Type 0} (f : A → B) (o : Option A) (y : B) → option_map f o ≡ Some y
     → (x : A) × (o ≡ Some x) × (f x ≡ y)
@@ -16,9 +19,10 @@ option_and_then-some f (Some x) y e = (x, refl, e)
 pub IfSome-some : {A : Type 0} (P : A → Type 0) (o : Option A) (x : A) → o ≡ Some x → IfSome o P → P x
 IfSome-some P o x e h = let Q : Option _ → Type 0 = λ o. IfSome o P in subst Q e h
 
-pub is_some-false : {A : Type 0} (o : Option A) → is_some o ≡ false → o ≡ None
-is_some-false None e = refl
-is_some-false (Some x) e = cc
+pub option_and_then-same : {A B : Type 0} (f g : A → Option B) → ((x : A) → f x ≡ g x) → (o : Option A)
+    → option_and_then f o ≡ option_and_then g o
+option_and_then-same f g same None = refl
+option_and_then-same f g same (Some x) = same x
 
 pub map-option_map_same : {A : Type 0} (os : List (Option A)) → map (option_map (λ x. x)) os ≡ os
 map-option_map_same [] = refl
@@ -33,3 +37,7 @@ option_cases (Some x) = inr (x, refl)
 pub by_option : {A : Type 0} (o : Option ℕ) → (o ≡ None → A) → ((n : ℕ) → o ≡ Some n → A) → A
 by_option None none some = none refl
 by_option (Some n) none some = some n refl
+
+pub OnErr-any : {T E P : Type 0} (r : Result T E) → P → OnErr r P
+OnErr-any (Ok value) p = tt
+OnErr-any (Err fault) p = p

@@ -1,11 +1,10 @@
 -- The numbers of a channel are those of its plan, and a read's channels are those of the writers that have turns.
 use Rattle.std.proofs.Common.{◌≡◌, ◌+◌, ℕ, Bool, true, false, cond, List, [], ◌∷◌, ◌++◌, map, length, take, count_by}
-use Rattle.std.proofs.Common.{refl, sym, ap, ◌∙◌, inl, inr, arith}
+use Rattle.std.proofs.Common.{sym, ap, ◌∙◌, inl, inr, arith}
 use Rattle.std.specs.Prelude.{Option}
 use Rattle.std.specs.List.{filter, list_any, range_with_len}
 use Rattle.std.proofs.lemmas.Bool.{cases_Bool, cond-true, cond-false}
 use Rattle.std.proofs.lemmas.List.{append-nil, map-append}
-use Rattle.std.proofs.lemmas.List.Sums.{sum_by-cons}
 use Rattle.std.proofs.lemmas.List.FromFn.{length-map-range_with_len, take-map-range_with_len}
 use Rattle.channel_class.specs.Classes.{class_of}
 use Rattle.channel_class.specs.declared.ChannelClass.{ChannelClass}
@@ -14,6 +13,7 @@ use Rattle.channel_plan.specs.Reads.{channel_of}
 use Rattle.channel_plan.specs.Tokens.{is_from, is_used, tokens_among, tokens_below, turns_used, uses_of}
 use Rattle.channel_plan.proofs.OneSlot.{turns_used-some}
 use Rattle.channel_plan.proofs.Counts.{filter-range_with_len_more}
+use Rattle.channel_plan.proofs.Uses.{count_by-map}
 use Rattle.plan_numbers.specs.Numbers.{numbers_of, tokens_before}
 use Rattle.plan_numbers.specs.Used.{numbers_by}
 use Rattle.plan_numbers.specs.declared.numbers.PlanNumbers.{PlanNumbers}
@@ -21,13 +21,6 @@ use Rattle.plan_numbers.proofs.UsedLists.{none_used}
 use Rattle.reorder_slots.specs.Slots.{hold_of}
 use Rattle.sanlp.proofs.Lists.{map-range_with_len_same}
 use Rattle.sanlp.specs.declared.nest.Tag.{Tag}
-
-count_marks : {X : Type 0} (p : X → Bool) (xs : List X) → count_by (λ mark. mark) (map p xs) ≡ count_by p xs
-count_marks p [] = refl
-count_marks p (x ∷ xs) =
-    sum_by-cons (λ mark. cond mark 1 0) (p x) (map p xs)
-    ∙ ap (λ n. cond (p x) 1 0 + n) (count_marks p xs)
-    ∙ sym (sum_by-cons (λ y. cond (p y) 1 0) x xs)
 
 pub tokens_told : (turns : ℕ) (used : List ℕ)
     → tokens_before (tokens_among turns used) ≡ map (tokens_below used) (range_with_len 0 (turns + 1))
@@ -38,7 +31,7 @@ tokens_told turns used =
     ∙ map-range_with_len_same below (tokens_below used) 0 (turns + 1)
     (λ turn from lt. ap (count_by (λ mark. mark))
     (take-map-range_with_len (is_used used) 0 turns turn (omega arith))
-    ∙ count_marks (is_used used) (range_with_len 0 turn))
+    ∙ count_by-map (is_used used) (range_with_len 0 turn))
 
 -- the numbers of a channel, from their parts
 pub numbers_are : (p k w turns : ℕ) (used before : List ℕ) (tokens : ℕ) (class : ChannelClass) (hold : ℕ)

@@ -3,22 +3,14 @@
 -- Of two turns of which the later one is used, the later one's token is the later one: up to it one more turn is a token
 -- (`tokens_rise`). So used turns compare as their tokens do, both by order and by being the same (`same_order`, `same_turn`),
 -- and uses fall or repeat exactly where the turns do. Of turns that aren't used nothing is said: their numbers may be the same.
-use Rattle.std.proofs.Common.{◌≡◌, ◌+◌, ◌-◌, ◌<◌, ◌≤◌, ◌==◌, ◌&&◌, ◌||◌, ℕ, zero, suc, true, cond, leb, List, [], ◌∷◌}
+use Rattle.std.proofs.Common.{◌≡◌, ◌+◌, ◌-◌, ◌<◌, ◌==◌, ◌&&◌, ◌||◌, ℕ, true, cond, leb, List, [], ◌∷◌}
 use Rattle.std.proofs.Common.{map, refl, sym, ap, ap₂, ◌∙◌, inl, inr, arith}
 use Rattle.std.specs.List.{list_any}
 use Rattle.std.proofs.lemmas.Bool.{cases_eq, cases_lt, eq-eqb, le-leb, lt-leb, ne_eqb, or_left, or_right}
 use Rattle.channel_class.specs.Classes.{class_of, has_repeat, never_falls}
 use Rattle.channel_class.specs.declared.UseOrder.TheVariants.{InOrder, Reorder}
 use Rattle.channel_plan.specs.Tokens.{is_used, tokens_below, uses_of}
-use Rattle.channel_plan.proofs.Uses.{tokens_more}
-
--- no turn has a lesser number than one before it
-pub tokens_grow : (used : List ℕ) (a m : ℕ) → tokens_below used a ≤ tokens_below used (a + m)
-tokens_grow used a zero =
-    let same : a ≡ a + 0 = omega arith in omega (arith, ap (tokens_below used) same)
-tokens_grow used a (suc m) =
-    let next : a + m + 1 ≡ a + suc m = omega arith in
-    omega (arith, tokens_grow used a m, tokens_more used (a + m), ap (tokens_below used) next)
+use Rattle.channel_plan.proofs.Uses.{tokens_more, tokens_below-more}
 
 -- and behind a turn that is used it is greater
 pub tokens_rise : (used : List ℕ) (a b : ℕ) → is_used used a ≡ true → a < b → tokens_below used a < tokens_below used b
@@ -28,7 +20,7 @@ tokens_rise used a b h lt =
       arith,
       tokens_more used a,
       ap (λ c. cond {A = ℕ} c 1 0) h,
-      tokens_grow used (a + 1) (b - a - 1),
+      tokens_below-more used (a + 1) (b - a - 1),
       ap (tokens_below used) rest,
     )
 
@@ -46,7 +38,7 @@ module _ (used : List ℕ) where
         | inr rises ↦
             let rest : a + (b - a) ≡ b = omega arith in
             le-leb (tokens_below used a) (tokens_below used b)
-            (omega (arith, tokens_grow used a (b - a), ap (tokens_below used) rest))
+            (omega (arith, tokens_below-more used a (b - a), ap (tokens_below used) rest))
             ∙ sym (le-leb a b rises)
       ]
 

@@ -4,9 +4,9 @@
 -- told of a list with one element more at its end (`falls_push`, `repeat_push`), by induction along the list: the definitions go
 -- along it from its first element. What the last use is of no uses is 0, which no use is below.
 use Rattle.std.proofs.Common.{◌≡◌, ◌+◌, ◌<◌, ◌==◌, ◌&&◌, ◌||◌, ℕ, Bool, true, false, leb, List, [], ◌∷◌, ◌++◌, take}
-use Rattle.std.proofs.Common.{get_or, length, refl, sym, ap, ap₂, ◌∙◌, inl, inr, arith}
+use Rattle.std.proofs.Common.{get_or, length, refl, sym, ap, ap₂, ◌∙◌, arith}
 use Rattle.std.specs.List.{fold, list_any}
-use Rattle.std.proofs.lemmas.Bool.{cases_eq, eq-eqb, le-leb, ne_eqb}
+use Rattle.std.proofs.lemmas.Bool.{le-leb}
 use Rattle.std.proofs.lemmas.List.{take_more}
 use Rattle.channel_class.specs.Classes.{class_of, has_repeat, never_falls}
 use Rattle.channel_class.specs.declared.ChannelClass.{ChannelClass}
@@ -48,13 +48,6 @@ any_push p (a ∷ xs) x = ap (λ later. p a || later) (any_push p xs x) ∙ or_g
     or_grouped : (a b c : Bool) → (a || (b || c)) ≡ ((a || b) || c)
     or_grouped true b c = refl
     or_grouped false b c = refl
-
-same_way : (a b : ℕ) → (a == b) ≡ (b == a)
-same_way a b =
-    elim (cases_eq a b) [
-      | inl same ↦ eq-eqb a b same ∙ sym (eq-eqb b a (sym same))
-      | inr other ↦ ne_eqb a b other ∙ sym (ne_eqb b a (λ e. other (sym e)))
-    ]
 
 others : (a b h u : Bool) → ((a || b) || (h || u)) ≡ ((a || h) || (b || u))
 others true b h u = refl

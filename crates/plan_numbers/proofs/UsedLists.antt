@@ -1,29 +1,23 @@
 -- The turns of each process among the sources of a read, as their lists grow.
 --
 -- The invariant is that the list of process w has the turns of w among the sources passed so far. The next source, where it is
--- a turn, is at the end of its own process's list, and no other process has it (`lists_more`); for this each source must be of
+-- a turn, is at the end of its turn_of-own process's list, and no other process has it (`lists_more`); for this each source must be of
 -- one of the processes. A list is empty exactly where no source is of its process (`none_used`, and channel_plan's
 -- `turns_used-some`). In what order processes stand is no question here.
 use Rattle.std.proofs.Common.{◌≡◌, ◌<◌, ◌+◌, ◌==◌, ◌||◌, ℕ, Bool, true, false, cond, List, [], ◌∷◌, ◌++◌, map, length, take, set, get_or}
 use Rattle.std.proofs.Common.{refl, sym, ap, ◌∙◌, arith}
 use Rattle.std.specs.Prelude.{Option, Some, None}
 use Rattle.std.specs.List.{cons_option, list_any, range_with_len}
-use Rattle.std.proofs.lemmas.Bool.{eq-eqb, ne_eqb}
 use Rattle.std.proofs.lemmas.List.{append-nil}
 use Rattle.std.proofs.lemmas.List.FromFn.{get_or-map-range_with_len}
 use Rattle.channel_plan.specs.Reads.{IsTurnAmong}
 use Rattle.channel_plan.specs.Tokens.{is_from, turn_of, turns_used}
 use Rattle.channel_plan.proofs.Counts.{set_mapped}
 use Rattle.channel_plan.proofs.Marks.{filter_map_more}
+use Rattle.channel_plan.proofs.OneSlot.{turn_of-own, turn_of-foreign}
 use Rattle.plan_numbers.specs.Turns.{IsOfOne, with_turn}
 use Rattle.sanlp.proofs.Lists.{map-range_with_len_same}
 use Rattle.sanlp.specs.declared.nest.Tag.{Tag}
-
-own : (w : ℕ) (t : Tag) → t.process ≡ w → cons_option (turn_of w (Some t)) [] ≡ t.turn ∷ []
-own w t e = ap (λ b. cons_option (cond b (Some t.turn) None) []) (eq-eqb t.process w e)
-
-foreign : (w : ℕ) (t : Tag) → (t.process ≡ w → ⊥) → cons_option (turn_of w (Some t)) [] ≡ []
-foreign w t e = ap (λ b. cons_option (cond b (Some t.turn) None) []) (ne_eqb t.process w e)
 
 -- one source more
 pub lists_more : (m i : ℕ) (sources : List (Option Tag)) (source d : Option Tag) (lists : List (List ℕ))
@@ -45,9 +39,9 @@ lists_more m i sources (Some t) d lists lt e of was =
     ap (λ xs. get_or xs p []) was ∙ get_or-map-range_with_len f 0 m p p [] of (omega arith) in
     ap (λ xs. set lists p (xs ++ t.turn ∷ [])) here
     ∙ ap (λ xs. set xs p (f p ++ t.turn ∷ [])) was
-    ∙ set_mapped f g p (f p ++ t.turn ∷ []) (more p ∙ ap (λ xs. f p ++ xs) (own p t refl))
+    ∙ set_mapped f g p (f p ++ t.turn ∷ []) (more p ∙ ap (λ xs. f p ++ xs) (turn_of-own p t refl))
     (λ w other. sym
-    (more w ∙ ap (λ xs. f w ++ xs) (foreign w t (λ same. other (sym same))) ∙ append-nil (f w)))
+    (more w ∙ ap (λ xs. f w ++ xs) (turn_of-foreign w t (λ same. other (sym same))) ∙ append-nil (f w)))
     0 m p (omega arith)
 
 -- a turn among these is of one of the processes

@@ -5,17 +5,17 @@
 -- count of that process by 1 and no other, and a fire without a source raises none (`counts_more`); for
 -- this each source must be of a process that has a count. So the number of a fire's use is the count of its
 -- source's process (`used_here`), and it is no more than the number of the fires before (`before_few`).
-use Rattle.std.proofs.Common.{◌≡◌, ◌<◌, ◌≤◌, ◌+◌, ℕ, zero, suc, cond, List, [], ◌∷◌, map, length, take, set}
+use Rattle.std.proofs.Common.{◌≡◌, ◌<◌, ◌≤◌, ◌+◌, ℕ, zero, suc, List, [], ◌∷◌, map, length, take, set}
 use Rattle.std.proofs.Common.{get_or, refl, sym, ap, ◌∙◌, arith, add-one, length-append}
 use Rattle.std.specs.Prelude.{Option, Some, None, slice_get, replicate}
 use Rattle.std.specs.List.{cons_option, range_with_len}
 use Rattle.std.specs.Option.{option_and_then}
-use Rattle.std.proofs.lemmas.Bool.{ne_eqb, eq-eqb}
 use Rattle.std.proofs.lemmas.List.Elements.{filter_map-append}
 use Rattle.std.proofs.lemmas.List.FromFn.{get_or-map-range_with_len}
 use Rattle.sanlp.specs.declared.nest.Tag.{Tag}
 use Rattle.sanlp.proofs.Lists.{map-range_with_len_same, map-range_with_len_replicate, set_counted}
 use Rattle.channel_plan.specs.Tokens.{turn_of, turns_used}
+use Rattle.channel_plan.proofs.OneSlot.{turn_of-own, turn_of-foreign}
 use Rattle.plain_data.proofs.Lists.{take-suc_some}
 use Rattle.process_derive.specs.declared.incoming.Incoming.{Incoming}
 use Rattle.process_derive.specs.Uses.{CountsBelow, OnlyBelow, counted, use_at, use_from, uses_before}
@@ -49,12 +49,6 @@ pub none_before : (sources : List (Option Tag)) (processes : ℕ)
     → replicate processes 0 ≡ map (uses_before sources 0) (range_with_len 0 processes)
 none_before sources processes = sym (map-range_with_len_replicate (uses_before sources 0) 0 0 processes (λ w. refl))
 
-pub of_own : (w : ℕ) (t : Tag) → t.process ≡ w → cons_option (turn_of w (Some t)) [] ≡ t.turn ∷ []
-of_own w t e = ap (λ b. cons_option (cond b (Some t.turn) None) []) (eq-eqb t.process w e)
-
-pub of_other : (w : ℕ) (t : Tag) → (t.process ≡ w → ⊥) → cons_option (turn_of w (Some t)) [] ≡ []
-of_other w t e = ap (λ b. cons_option (cond b (Some t.turn) None) []) (ne_eqb t.process w e)
-
 -- one fire more
 pub counts_more : (sources : List (Option Tag)) (i processes : ℕ) (source : Option Tag) (counts : List ℕ)
     → slice_get sources i ≡ Some source → OnlyBelow processes source
@@ -71,9 +65,9 @@ counts_more sources i processes (Some t) counts e below was =
     ap (λ xs. get_or xs p 0) was ∙ get_or-map-range_with_len f 0 processes p p 0 below (omega arith) in
     ap (λ n. set counts p (n + 1)) here
     ∙ ap (λ xs. set xs p (f p + 1)) was
-    ∙ set_counted f g p (before_more sources i p (Some t) e ∙ ap (λ xs. f p + length xs) (of_own p t refl))
+    ∙ set_counted f g p (before_more sources i p (Some t) e ∙ ap (λ xs. f p + length xs) (turn_of-own p t refl))
     (λ w other. sym
-    (before_more sources i w (Some t) e ∙ ap (λ xs. f w + length xs) (of_other w t (λ same. other (sym same)))
+    (before_more sources i w (Some t) e ∙ ap (λ xs. f w + length xs) (turn_of-foreign w t (λ same. other (sym same)))
     ∙ omega arith))
     0 processes p (omega arith)
 

@@ -29,6 +29,7 @@ use Rattle.reorder_slots.specs.declared.slots.SlotPlan.{SlotPlan}
 use Rattle.channel_plan.specs.declared.plans.ChannelPlan.{ChannelPlan}
 use Rattle.channel_plan.specs.Plans.{plan_of, plans_of, sources_at, turn_count}
 use Rattle.channel_plan.specs.Tokens.{is_from, uses_of}
+use Rattle.channel_plan.proofs.OneSlot.{turn_of-own, turn_of-foreign}
 use Rattle.net_core.specs.declared.network.Channel.{Channel}
 use Rattle.net_core.specs.declared.network.Event.{Event}
 use Rattle.net_core.specs.declared.network.Event.TheVariants.{Get, Fire, Put}
@@ -44,7 +45,7 @@ use Rattle.process_derive.specs.Few.{HasFewSlots}
 use Rattle.process_derive.specs.Scripts.{Usage, channel_from, gets_for_uses, gets_of, goes_between, point_events}
 use Rattle.process_derive.specs.Scripts.{puts_from, ref_of, script, slot_base, slots_of, usage, usage_from}
 use Rattle.process_derive.specs.Uses.{OnlyBelow, uses_before}
-use Rattle.process_derive.proofs.Counts.{before_more, of_other, of_own}
+use Rattle.process_derive.proofs.Counts.{before_more}
 use Rattle.process_derive.proofs.EachPlan.{plan_there}
 use Rattle.process_derive.proofs.Holds.{few_slots, process_holds}
 use Rattle.process_derive.proofs.Numbers.{HasSlots, all_planned, count_processes, found_slots, gets_by, gets_until}
@@ -199,10 +200,10 @@ fire_makes n p k f (Some t) process read e below =
     let next : f + 1 ≡ suc f = omega arith in
     let here : uses_before sources (suc f) v ≡ suc q =
     sym (ap (λ j. uses_before sources j v) next) ∙ before_more sources f v (Some t) e
-    ∙ ap (λ xs. q + length xs) (of_own v t refl) ∙ omega arith in
+    ∙ ap (λ xs. q + length xs) (turn_of-own v t refl) ∙ omega arith in
     let others : (w : ℕ) → w ≢ v → uses_before sources (suc f) w ≡ uses_before sources f w = λ w ne.
     sym (ap (λ j. uses_before sources j w) next) ∙ before_more sources f w (Some t) e
-    ∙ ap (λ xs. uses_before sources f w + length xs) (of_other w t (λ same. ne (sym same))) ∙ omega arith in
+    ∙ ap (λ xs. uses_before sources f w + length xs) (turn_of-foreign w t (λ same. ne (sym same))) ∙ omega arith in
     let some : channel_from 0 (plans_of n) v p k ≡ None → ⊥ =
     λ none. not_none 0 (plans_of n) v p k (plan_of n p k v) (plan_there n p k v process read below
     (any_passes_from_place (is_from v) (sources_at n p k) f (Some t) e (eq-eqb v v refl)))

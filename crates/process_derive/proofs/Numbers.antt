@@ -28,6 +28,7 @@ use Rattle.reorder_slots.specs.Slots.{gets_for}
 use Rattle.channel_plan.specs.declared.plans.ChannelPlan.{ChannelPlan}
 use Rattle.channel_plan.specs.Plans.{plans_of, slot_plan, sources_at, turn_count}
 use Rattle.channel_plan.specs.Tokens.{tokens_below, turn_of, turns_used, uses_of}
+use Rattle.channel_plan.proofs.OneSlot.{turn_of-own, turn_of-foreign}
 use Rattle.net_core.specs.declared.network.Event.TheVariants.{Get, Fire}
 use Rattle.net_core.specs.declared.network.Process.{Process}
 use Rattle.net_core.specs.Machine.{net_of}
@@ -38,7 +39,7 @@ use Rattle.process_derive.specs.Scripts.{Usage, channel_from, gets_for_uses, get
 use Rattle.process_derive.specs.Scripts.{script, slot_base, usage, usage_from}
 use Rattle.process_derive.specs.Uses.{OnlyBelow, uses_before}
 use Rattle.process_derive.proofs.Bounds.{few_entries, few_plans}
-use Rattle.process_derive.proofs.Counts.{before_more, of_other, of_own}
+use Rattle.process_derive.proofs.Counts.{before_more}
 use Rattle.process_derive.proofs.Puts.{all_puts, point_puts, process_puts}
 use Rattle.process_derive.proofs.Shares.{all_turns, uses_within, used, uses_shared}
 use Rattle.process_derive.proofs.EachPlan.{each_plan}
@@ -176,10 +177,10 @@ fire_gets n p k f (Some t) e below =
     let next : f + 1 ≡ suc f = omega arith in
     let here : uses_before sources (suc f) v ≡ suc q =
     sym (ap (λ j. uses_before sources j v) next) ∙ before_more sources f v (Some t) e
-    ∙ ap (λ xs. q + length xs) (of_own v t refl) ∙ omega arith in
+    ∙ ap (λ xs. q + length xs) (turn_of-own v t refl) ∙ omega arith in
     let others : (w : ℕ) → w ≢ v → uses_before sources f w ≡ uses_before sources (suc f) w = λ w ne.
     sym (sym (ap (λ j. uses_before sources j w) next) ∙ before_more sources f w (Some t) e
-    ∙ ap (λ xs. uses_before sources f w + length xs) (of_other w t (λ same. ne (sym same))) ∙ omega arith) in
+    ∙ ap (λ xs. uses_before sources f w + length xs) (turn_of-foreign w t (λ same. ne (sym same))) ∙ omega arith) in
     let found : length (gets_of (usage n p f k)) ≤ gets_by (uses v) (suc q) - gets_by (uses v) q =
     subst (λ o. length
     (gets_of (option_and_then

@@ -29,6 +29,7 @@ use Rattle.reorder_slots.specs.Slots.{gets_for}
 use Rattle.channel_plan.specs.declared.plans.ChannelPlan.{ChannelPlan}
 use Rattle.channel_plan.specs.Plans.{plans_of, slot_plan, sources_at, turn_count}
 use Rattle.channel_plan.specs.Tokens.{tokens_below, uses_of}
+use Rattle.channel_plan.proofs.OneSlot.{turn_of-own}
 use Rattle.net_core.specs.declared.network.Channel.{Channel}
 use Rattle.net_core.specs.declared.network.Event.{Event}
 use Rattle.net_core.specs.declared.network.Event.TheVariants.{Get, Fire, Put}
@@ -45,7 +46,7 @@ use Rattle.process_derive.specs.Scripts.{script, slot_base, slots_of, usage, usa
 use Rattle.process_derive.specs.Uses.{uses_before}
 use Rattle.process_derive.specs.Incoming.{comes_from, incoming_from}
 use Rattle.process_derive.proofs.Channels.{AreSame, longer}
-use Rattle.process_derive.proofs.Counts.{before_more, of_own}
+use Rattle.process_derive.proofs.Counts.{before_more}
 use Rattle.process_derive.proofs.EachPlan.{each_plan}
 use Rattle.process_derive.proofs.Numbers.{HasSlots, all_planned, before_within, count_channels, count_processes}
 use Rattle.process_derive.proofs.Numbers.{found_slots, gets_here, numbers_fit, script_at}
@@ -120,7 +121,7 @@ usage_there n p f k (Some (Some t)) e =
     let q : ℕ = uses_before sources f w in
     let here : uses_before sources (suc f) w ≡ suc q =
     sym (ap (λ j. uses_before sources j w) next) ∙ before_more sources f w (Some t) e
-    ∙ ap (λ xs. q + length xs) (of_own w t refl) ∙ omega arith in
+    ∙ ap (λ xs. q + length xs) (turn_of-own w t refl) ∙ omega arith in
     let within : q < length (uses_of (used n p k w)) =
     omega (arith, here, before_within sources (suc f) w, length-map (used n p k w) (tokens_below (used n p k w))) in
     found_there n p k w q (channel_from 0 (plans_of n) w p k) refl

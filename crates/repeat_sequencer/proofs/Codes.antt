@@ -4,33 +4,17 @@
 -- back to its layer, and there the fold is the step. Below a repeat stands a list of parts, whose fold is that of the
 -- list's own layer, so a repeat needs both steps. `in_order` is told at no code, at one, and at one that others follow.
 -- No lemma here is an induction; those of Builds, Sizes and Given unfold no fold but cite these.
-use Rattle.std.proofs.Common.{◌≡◌, ◌+◌, ℕ, List, [], ◌∷◌, ◌++◌, map, length, refl, sym, ap, ◌∙◌}
+use Rattle.std.proofs.Common.{◌≡◌, ◌+◌, ℕ, List, [], ◌∷◌, ◌++◌, length, refl, ap, ◌∙◌}
 use Rattle.std.specs.List.{sum_by}
 use Rattle.std.proofs.lemmas.List.Sums.{sum-map}
 use Rattle.script_blocks.specs.declared.blocks.Blocks.{Blocks}
 use Rattle.script_blocks.specs.declared.blocks.BlockPart.TheOpen as open_part
-use Rattle.script_blocks.specs.declared.blocks.BlockPart.TheViews.{Repeat, rolls-Item, rolls-Repeat}
+use Rattle.script_blocks.specs.declared.blocks.BlockPart.TheViews.{Repeat}
 use Rattle.script_blocks.specs.declared.blocks.BlockPart.TheVariants.{Item}
-use Rattle.script_blocks.specs.declared.blocks.BlockPart.TheFolds.{fold-BlockPart, fold-roll-BlockPart}
-use Rattle.script_blocks.specs.declared.blocks.BlockPart.TheFolds.{fold-roll-Blocks}
+use Rattle.script_blocks.proofs.Expansions.{fold_item, fold_repeat}
 use Rattle.repeat_sequencer.specs.declared.sequencer.RepeatEnd.{RepeatEnd}
 use Rattle.repeat_sequencer.specs.Instructions.{Code, code_of, code_of_list, in_order, part_code, parts_code}
 use Rattle.repeat_sequencer.specs.Size.{items_of, items_of_list, part_items}
-
-module _ (T A B : Type 0) (part_step : open_part.BlockPart-F T A B → A) (list_step : open_part.Blocks-F T A B → B) where
-  fold_item : (x : T) → fold-BlockPart T A B part_step list_step (Item x) ≡ part_step (open_part.Item x)
-  fold_item x =
-      ap (fold-BlockPart T A B part_step list_step) (sym (rolls-Item x))
-      ∙ fold-roll-BlockPart T A B part_step list_step (open_part.Item x)
-
-  fold_repeat : (count : ℕ) (body : Blocks T) → fold-BlockPart T A B part_step list_step (Repeat count body)
-      ≡ part_step (open_part.Repeat count
-      (list_step (record { parts = map (fold-BlockPart T A B part_step list_step) body.parts })))
-  fold_repeat count body =
-      ap (fold-BlockPart T A B part_step list_step) (sym (rolls-Repeat count body))
-      ∙ fold-roll-BlockPart T A B part_step list_step (open_part.Repeat count body)
-      ∙ ap (λ b. part_step (open_part.Repeat count b))
-      (fold-roll-Blocks T A B part_step list_step (record { parts = body.parts }))
 
 pub code_item : {T : Type 0} (x : T) → part_code (Item x) ≡ code_of (open_part.Item x)
 code_item {T} x = fold_item T (Code T) (Code T) code_of code_of_list x

@@ -1,7 +1,6 @@
 -- A process has few points: it fires once at each, and its script has fewer than 2 ^ 32 events.
-use Rattle.std.proofs.Common.{◌≡◌, ◌<◌, ◌^◌, ◌∙◌, ◌++◌, ◌∷◌, ℕ, List, [], Some, length, slice_get, sym, ap, arith}
+use Rattle.std.proofs.Common.{◌≡◌, ◌<◌, ◌^◌, ◌∙◌, ℕ, [], Some, length, slice_get, sym, ap, arith}
 use Rattle.std.specs.Prelude.{slice_index_or}
-use Rattle.std.specs.List.{AllZip}
 use Rattle.std.proofs.lemmas.List.Sums.{count_by-le-length}
 use Rattle.std.proofs.lemmas.Option.{same_Some, slice_get_within}
 use Rattle.plain_data.proofs.Lists.{slice_get-some}
@@ -33,11 +32,3 @@ few_values nest network p auto shaped numbers is =
       count_by-le-length is_fire ((net_of network).script p),
       script_short (net_of network) shaped.wired numbers p,
     )
-
--- a pair more at the end of two lists that go together pair by pair
-pub pair_more : {X Y : Type 0} (R : X → Y → Type 0) (xs : List X) (ys : List Y) (x : X) (y : Y) → AllZip R xs ys
-    → R x y → AllZip R (xs ++ x ∷ []) (ys ++ y ∷ [])
-pair_more R [] [] x y all one = (one, tt)
-pair_more R [] (b ∷ ys) x y all one = absurd all
-pair_more R (a ∷ xs) [] x y all one = absurd all
-pair_more R (a ∷ xs) (b ∷ ys) x y all one = (all.0, pair_more R xs ys x y all.1 one)

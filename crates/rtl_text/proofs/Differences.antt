@@ -8,7 +8,7 @@ use Rattle.std.proofs.Common.{◌≡◌, ◌≢◌, ℕ, Bool, true, false, not,
 use Rattle.std.specs.Prelude.{nat_eq}
 use Rattle.std.specs.List.{flat_map, list_any}
 use Rattle.std.specs.Cmp.Lexicographic.{other_text, pointwise, same_text}
-use Rattle.std.proofs.lemmas.Bool.{and_from, and_parts, false≢true}
+use Rattle.std.proofs.lemmas.Bool.{and_from, and_parts, false≢true, or_parts}
 use Rattle.sanlp.specs.WellFormed.{all_differ}
 
 abbrev pub Each : {X : Type 0} → (X → Type 0) → List X → Type 0
@@ -37,11 +37,6 @@ each_map h P (x ∷ xs) p = (p.0, each_map h P xs p.1)
 pub each_of_map : {X Y : Type 0} (h : X → Y) (P : Y → Type 0) (xs : List X) → Each P (map h xs) → Each (λ x. P (h x)) xs
 each_of_map h P [] p = tt
 each_of_map h P (x ∷ xs) p = (p.0, each_of_map h P xs p.1)
-
-pub each_flat_map : {X Y : Type 0} (P : Y → Type 0) (f : X → List Y) → ((x : X) → Each P (f x)) → (xs : List X)
-    → Each P (flat_map f xs)
-each_flat_map P f p [] = tt
-each_flat_map P f p (x ∷ xs) = each_append P (f x) (flat_map f xs) (p x) (each_flat_map P f p xs)
 
 pub differ_append : {X : Type 0} (xs ys : List X) → Differ xs → Differ ys → Each (λ x. Apart x ys) xs → Differ (xs ++ ys)
 differ_append [] ys dx dy apart = dy
@@ -116,10 +111,6 @@ module _ {X K N : Type 0} (name : X → N) (name_of : K → N) where
 not_true : (b : Bool) → not b ≡ true → b ≡ false
 not_true true h = absurd (false≢true h)
 not_true false h = refl
-
-or_parts : (a b : Bool) → (a || b) ≡ false → (a ≡ false) × (b ≡ false)
-or_parts true b h = absurd (false≢true (sym h))
-or_parts false b h = (refl, h)
 
 other_texts : (x : List ℕ) (ys : List (List ℕ)) → list_any (pointwise nat_eq x) ys ≡ false → Apart x ys
 other_texts x [] none = tt

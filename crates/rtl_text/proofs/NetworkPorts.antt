@@ -12,6 +12,7 @@ use Rattle.std.specs.Option.{option_map_or}
 use Rattle.std.proofs.lemmas.Grind.{flat_map-append}
 use Rattle.std.proofs.lemmas.List.{length-append, map-append}
 use Rattle.std.proofs.lemmas.List.Folds.{flat_map-map}
+use Rattle.plain_data.proofs.Lists.{slice_get-append_cons}
 use Rattle.sanlp.specs.Cells.{is_input, is_output}
 use Rattle.sanlp.specs.declared.nest.ArrayDecl.{ArrayDecl}
 use Rattle.sanlp.specs.declared.nest.Kind.{Kind}
@@ -265,10 +266,6 @@ sink_at m Output = three_same m value valid ready
 sink_at m Both = three_same m value_out valid_out ready_out
 sink_at m Var = refl
 
-found_behind : {X : Type 0} (front : List X) (x : X) (rest : List X) → slice_get (front ++ x ∷ rest) (length front) ≡ Some x
-found_behind [] x rest = refl
-found_behind (y ∷ front) x rest = found_behind front x rest
-
 -- what the numbers of the arrays that pass stand for, array by array
 module _ (passes : ArrayDecl → Bool) (f : Option ArrayDecl → List (List ℕ)) where
   abbrev at_numbers : List ArrayDecl → ℕ → List ArrayDecl → List (List ℕ)
@@ -287,7 +284,7 @@ module _ (passes : ArrayDecl → Bool) (f : Option ArrayDecl → List (List ℕ)
   numbers_stand_for : (front rest : List ArrayDecl) → at_numbers (front ++ rest) (length front) rest ≡ at_arrays rest
   numbers_stand_for front [] = refl
   numbers_stand_for front (array ∷ rest) =
-      one_passes (front ++ array ∷ rest) (length front) array rest (found_behind front array rest) (passes array)
+      one_passes (front ++ array ∷ rest) (length front) array rest (slice_get-append_cons front array rest) (passes array)
       ∙ ap (λ (names : List (List ℕ)). cond (passes array) (f (Some array)) [] ++ names)
       (ap₂ (λ (arrays : List ArrayDecl) (k : ℕ). at_numbers arrays k rest)
       (sym (append_assoc front (array ∷ []) rest)) (sym (length-append front (array ∷ [])))

@@ -81,6 +81,11 @@ common_none (k ∷ ks) (l ∷ ls) h =
     let lt : k < l = h k l (inl refl) (inl refl) in
     ap (λ b. cond b (suc (common_loops ks ls)) 0) (ne_eqb k l (λ e. omega arith))
 
+pub common_loops-same : (ks : List ℕ) → common_loops ks ks ≡ length ks
+common_loops-same [] = refl
+common_loops-same (k ∷ ks) =
+    ap (λ b. cond b (suc (common_loops ks ks)) 0) (eq-eqb k k refl) ∙ ap suc (common_loops-same ks)
+
 pub common_loops-comm : (ks ls : List ℕ) → common_loops ks ls ≡ common_loops ls ks
 common_loops-comm [] [] = refl
 common_loops-comm [] (l ∷ ls) = refl

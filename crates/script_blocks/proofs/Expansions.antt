@@ -17,7 +17,7 @@ use Rattle.script_blocks.specs.Nesting.{check_part, check_list, is_body, is_prop
 use Rattle.script_blocks.specs.Nesting.{part_nesting, parts_nesting}
 
 module _ (T A B : Type 0) (part_step : open_part.BlockPart-F T A B → A) (list_step : open_part.Blocks-F T A B → B) where
-  fold_item : (x : T) → fold-BlockPart T A B part_step list_step (Item x) ≡ part_step (open_part.Item x)
+  pub fold_item : (x : T) → fold-BlockPart T A B part_step list_step (Item x) ≡ part_step (open_part.Item x)
   fold_item x =
       ap (fold-BlockPart T A B part_step list_step) (sym (rolls-Item x))
       ∙ fold-roll-BlockPart T A B part_step list_step (open_part.Item x)
@@ -27,7 +27,7 @@ module _ (T A B : Type 0) (part_step : open_part.BlockPart-F T A B → A) (list_
       ≡ list_step (record { parts = map (fold-BlockPart T A B part_step list_step) blocks.parts })
   fold_list blocks = fold-roll-Blocks T A B part_step list_step (record { parts = blocks.parts })
 
-  fold_repeat : (count : ℕ) (body : Blocks T) → fold-BlockPart T A B part_step list_step (Repeat count body)
+  pub fold_repeat : (count : ℕ) (body : Blocks T) → fold-BlockPart T A B part_step list_step (Repeat count body)
       ≡ part_step (open_part.Repeat count
       (list_step (record { parts = map (fold-BlockPart T A B part_step list_step) body.parts })))
   fold_repeat count body =

@@ -4,7 +4,7 @@
 -- Nothing says that two kinds hold different items, since no promise rests on it.
 use Rattle.std.proofs.Common.{◌≡◌, ◌+◌, ◌<◌, ◌≤◌, ℕ, zero, suc, Some, List, [], ◌∷◌, ◌++◌, drop, take, length, get_or}
 use Rattle.std.proofs.Common.{slice_get, refl, sym, ap, ◌∙◌, subst, arith}
-use Rattle.std.specs.Prelude.{slice_index_or, None, OnErr, Result, Ok, Err}
+use Rattle.std.specs.Prelude.{slice_index_or, None}
 use Rattle.std.specs.List.{cons_option}
 use Rattle.std.proofs.lemmas.List.{map_push, map-append, take_more, length-take}
 use Rattle.std.proofs.lemmas.List.Elements.{All-head, All-push, All-tail, filter_map-append}
@@ -104,8 +104,3 @@ items_repeated kinds other (suc count) labels =
 pub no_first : {T : Type 0} (kinds : List T) → None ≡ slice_get kinds 0 → kinds ≡ []
 no_first [] e = refl
 no_first (x ∷ kinds) e = absurd (cc)
-
--- what holds at any answer
-pub at_err : {X E P : Type 0} (r : Result X E) → P → OnErr r P
-at_err (Ok x) p = tt
-at_err (Err e) p = p

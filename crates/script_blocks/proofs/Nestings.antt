@@ -14,7 +14,7 @@ use Rattle.script_blocks.specs.declared.blocks.BlockPart.TheVariants.{Item}
 use Rattle.script_blocks.specs.Nesting.{are_proper, greatest, is_body, is_proper_part, part_nesting, parts_nesting}
 use Rattle.script_blocks.proofs.Expansions.{expansion_item, nesting_item, nesting_repeat, proper_item, proper_repeat}
 
-greatest-push : (ns : List ℕ) (n : ℕ) → greatest (ns ++ n ∷ []) ≡ max (greatest ns) n
+pub greatest-push : (ns : List ℕ) (n : ℕ) → greatest (ns ++ n ∷ []) ≡ max (greatest ns) n
 greatest-push [] n = omega arith
 greatest-push (m ∷ ns) n = let before = greatest-push ns n in omega arith
 

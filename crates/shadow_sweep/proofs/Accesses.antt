@@ -10,13 +10,14 @@ use Rattle.sanlp.specs.declared.nest.Statement.{Statement}
 use Rattle.sanlp.specs.declared.nest.Tag.{Tag}
 use Rattle.sanlp.specs.Access.{cell_at}
 use Rattle.sanlp.specs.Trace.{trace}
+use Rattle.sanlp.proofs.ReadCounts.{trace-next_statement}
 use Rattle.cell_rows.specs.declared.narrow_access.NarrowStatement.{NarrowStatement}
 use Rattle.cell_rows.specs.Narrow.{narrowed}
 use Rattle.cell_rows.specs.ShortAccesses.{access_short, statement_short}
 use Rattle.cell_rows.proofs.NarrowStatements.{statement_of_narrow}
 use Rattle.cell_rows.proofs.ShortStatements.{found_is_short, short_reads, short_write}
 use Rattle.shadow_sweep.specs.LastWrites.{LastWrites, noted, with_sources}
-use Rattle.shadow_sweep.proofs.SweepState.{depth_is, statement_exists}
+use Rattle.shadow_sweep.proofs.SweepState.{depth_is}
 
 few_of : (depth : ℕ) (accesses : NarrowStatement) (s : Statement) → accesses ≡ narrowed s
     → statement_short depth s ≡ true → length accesses.reads ≤ 8
@@ -40,7 +41,7 @@ pub accesses_of : (n : Nest) (left later : List Point) (p : Point)
     → accesses ≡ get_or all p.statement accesses
     → AreAccessesOf n p accesses
 accesses_of n left later p e f all accesses same is =
-    let exists = statement_exists n left later p e f in
+    let exists = trace-next_statement n left later p e f in
     let s = statement_of_narrow n.statements all p.statement accesses same exists is in
     let depth = depth_is n left later p e f s.0 s.1 in
     let short : statement_short (length p.at) s.0 ≡ true =

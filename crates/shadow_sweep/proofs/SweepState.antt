@@ -7,7 +7,7 @@
 -- is another file's.
 use Rattle.std.proofs.Common.{◌≡◌, ◌≢◌, ◌<◌, ◌≤◌, ◌+◌, ◌-◌, ℕ, zero, suc, List, [], ◌∷◌, ◌++◌, map, length, take, drop}
 use Rattle.std.proofs.Common.{set, get_or, Bool, true, false, cond, refl, sym, ap, ◌∙◌, subst, arith, add_assoc}
-use Rattle.std.proofs.Common.{length-append, length-drop}
+use Rattle.std.proofs.Common.{length-append}
 use Rattle.std.specs.Prelude.{Option, Some, None, slice_get, replicate, ◌==◌}
 use Rattle.std.specs.List.{sum_by, count_by, range_with_len}
 use Rattle.std.specs.Option.{option_and_then, option_map, option_map_or}
@@ -16,7 +16,7 @@ use Rattle.std.proofs.lemmas.List.{length-map, length-take, map-append, replicat
 use Rattle.std.proofs.lemmas.List.Sums.{count_by-le-length, sum_by-cons, sum_by_push}
 use Rattle.std.proofs.lemmas.List.FromFn.{length-map-range_with_len, get_or-map-range_with_len}
 use Rattle.std.proofs.lemmas.Option.{same_Some, slice_get_within}
-use Rattle.plain_data.proofs.Lists.{take-suc_some, drop_parts, map-same}
+use Rattle.plain_data.proofs.Lists.{take-suc_some, map-same, left-first, left-length}
 use Rattle.sanlp.specs.declared.nest.Nest.{Nest}
 use Rattle.sanlp.specs.declared.nest.Point.{Point}
 use Rattle.sanlp.specs.declared.nest.Statement.{Statement}
@@ -35,6 +35,7 @@ use Rattle.sanlp.specs.Writers.{last_before, writes}
 use Rattle.sanlp.proofs.Enumerates.{enumerates_domains}
 use Rattle.sanlp.proofs.Lists.{map-range_with_len_replicate, set_counted, split_at}
 use Rattle.sanlp.proofs.NestFacts.{trace_within}
+use Rattle.sanlp.proofs.ReadCounts.{trace-next_statement}
 use Rattle.source_tree.specs.Sources.{read_number, source_at, sources_from, sources_of}
 use Rattle.shadow_sweep.specs.LastWrites.{LastWrites, noted, no_writes, with_sources}
 use Rattle.shadow_sweep.proofs.Lists.{longer_counted, map_places, sources_after, sources_in_front}
@@ -374,35 +375,10 @@ pub few_turns : (points : List Point) (t s : ℕ) → turns_before points t s �
 few_turns points t s =
     omega (arith, count_by-le-length (λ q. q.statement == s) (take t points), length-take t points)
 
--- A walk of which so many points are left.
-pub entry_is : (points left later : List Point) (p : Point) → drop (length points - length left) points ≡ left
-    → left ≡ p ∷ later
-    → slice_get points (length points - length left) ≡ Some p
-entry_is points left later p e f = (drop_parts points (length points - length left) p later (e ∙ f)).0
-
-pub next_time : (points left later : List Point) (p : Point) → drop (length points - length left) points ≡ left
-    → left ≡ p ∷ later
-    → length points - length later ≡ suc (length points - length left)
-next_time points left later p e f =
-    omega (arith, length-drop (length points - length left) points, ap length e, ap length f)
-
-pub left_later : (points left later : List Point) (p : Point) → drop (length points - length left) points ≡ left
-    → left ≡ p ∷ later
-    → drop (length points - length later) points ≡ later
-left_later points left later p e f =
-    ap (λ k. drop k points) (next_time points left later p e f)
-    ∙ (drop_parts points (length points - length left) p later (e ∙ f)).1
-
 module _ (n : Nest) (left later : List Point) (p : Point) (e : drop (length (trace n) - length left) (trace n) ≡ left)
     (f : left ≡ p ∷ later) where
-  here : slice_get (trace n) (length (trace n) - length left) ≡ Some p
-  here = entry_is (trace n) left later p e f
-
   point : IsPoint n p
-  point = (enumerates_domains n).entry _ p here
-
-  pub statement_exists : p.statement < length n.statements
-  statement_exists = slice_get_within n.statements p.statement point.statement point.found
+  point = (enumerates_domains n).entry _ p (left-first (trace n) left later p e f)
 
   pub depth_is : (s : Statement) → slice_get n.statements p.statement ≡ Some s → depth_of s ≡ length p.at
   depth_is s found = sym (point.deep ∙ ap (λ x. length x.loops) (same_Some point.statement s (sym point.found ∙ found)))
@@ -413,7 +389,7 @@ module _ (n : Nest) (left later : List Point) (p : Point) (e : drop (length (tra
     turn_exists =
         omega (
           arith,
-          statement_exists,
+          trace-next_statement n left later p e f,
           ap length swept.turns_are,
           length-map-range_with_len
               (turns_before (trace n) (length (trace n) - length left)) 0 (length n.statements),
@@ -423,7 +399,8 @@ module _ (n : Nest) (left later : List Point) (p : Point) (e : drop (length (tra
     turn_is_small small =
         omega (
           arith,
-          turn_is n (length (trace n) - length left) p.statement turns writes lists swept statement_exists,
+          turn_is n (length (trace n) - length left) p.statement turns writes lists swept
+              (trace-next_statement n left later p e f),
           few_turns (trace n) (length (trace n) - length left) p.statement,
           trace_within n,
         )
@@ -437,8 +414,9 @@ module _ (n : Nest) (left later : List Point) (p : Point) (e : drop (length (tra
         → lists' ≡ with_sources lists first (map writes (map (cell_at p.at) s.reads))
         → IsSwept n (length (trace n) - length later) turns' writes' lists'
     swept_later s turns' writes' lists' turn first found same number g h i =
-        subst (λ t. IsSwept n t turns' writes' lists') (sym (next_time (trace n) left later p e f))
-        (swept_more n (length (trace n) - length left) p s turns turns' writes writes' lists lists' here found swept g
+        subst (λ t. IsSwept n t turns' writes' lists') (sym (left-length (trace n) left later p e f))
+        (swept_more n (length (trace n) - length left) p s turns turns' writes writes' lists lists'
+        (left-first (trace n) left later p e f) found swept g
         (h ∙ ap (λ v.
         noted writes (option_map (cell_at p.at) s.write) (record { process = p.statement; turn = v })) same)
         (i ∙ ap (λ k. with_sources lists k (map writes (map (cell_at p.at) s.reads))) number))

@@ -26,7 +26,7 @@ use Rattle.sanlp.specs.Memory.{is_cell}
 use Rattle.sanlp.specs.Order.{common_loops, PrecedesWithin}
 use Rattle.sanlp.specs.Writers.{writes, writes_at, last_before}
 use Rattle.sanlp.proofs.Each.{Each, each_left, each_right, each_from_map}
-use Rattle.sanlp.proofs.Precedence.{common_first, common_second, common_loops-comm}
+use Rattle.sanlp.proofs.Precedence.{common_first, common_second, common_loops-comm, common_loops-same}
 use Rattle.source_tree.specs.Gives.{values}
 use Rattle.source_tree.specs.Places.{variables, at_place, domain_rows, cell_rows, differ_rows, before_rows, same_rows}
 use Rattle.source_tree.specs.Rows.{RowExpr, RowSystem, Take, row_at, below_zero, one_less, minus}
@@ -36,7 +36,7 @@ use Rattle.source_tree.specs.Systems.{same_systems, after_systems, between_syste
 use Rattle.source_tree.proofs.Gives.{values-variables, row_at-at_place}
 use Rattle.source_tree.proofs.MetRows.{AreMet, AreMet-append, AreMet-cell_rows}
 use Rattle.source_check.proofs.Lists.{each_from_flat, cell_where, where_cell, map_or_true, greatest_none, greatest_some}
-use Rattle.source_check.proofs.Orders.{some_level, compare, same_all, common_same, neither_less}
+use Rattle.source_check.proofs.Orders.{some_level, compare, same_all, neither_less}
 use Rattle.source_check.proofs.Readers.{IsReader, IsTrace, IsPointAt, IsBefore, among_writes}
 use Rattle.source_check.proofs.Values.{AreWithin, AreShort, AllHold, met_more, values_more}
 use Rattle.source_check.proofs.Values.{domain_met, same_met}
@@ -301,7 +301,7 @@ module _ (n : Nest) (points : List Point) (follows : IsTrace n points) (r : Occu
         let s : w.statement ≡ r.statement =
         same_Some w.statement r.statement (sym is ∙ ap (slice_get n.statements) e ∙ reads.is) in
         let full : k ≡ length r.statement.loops =
-        ap (λ (s : Statement). common_loops s.loops r.statement.loops) s ∙ common_same r.statement.loops in
+        ap (λ (s : Statement). common_loops s.loops r.statement.loops) s ∙ common_loops-same r.statement.loops in
         let long : length point ≡ k = is_point.deep ∙ ap (λ (s : Statement). length s.loops) s ∙ sym full in
         absurd (not_same e (sym (same_all k point x long (here.deep ∙ sym full) same))))
 

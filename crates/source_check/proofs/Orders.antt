@@ -4,14 +4,13 @@
 -- earlier, or all common loops are equal and its statement comes first. So where the rows of each level lead to a
 -- contradiction, it does not stand before. Of two points one stands before the other, or they agree in all common loops
 -- and are of one statement.
-use Rattle.std.proofs.Common.{◌≡◌, ◌≤◌, ℕ, zero, suc, ℤ, List, [], ◌∷◌, ◌++◌, length, Bool, true, false, cond}
-use Rattle.std.proofs.Common.{refl, sym, ap, ◌∙◌, arith, inl, inr}
+use Rattle.std.proofs.Common.{◌≡◌, ◌≤◌, ℕ, zero, suc, ℤ, List, [], ◌∷◌, ◌++◌, length, Bool, true, false}
+use Rattle.std.proofs.Common.{refl, sym, arith, inl, inr}
 use Rattle.std.specs.Prelude.{nat_lt}
 use Rattle.std.proofs.lemmas.Int.{ints, by_lt_z}
-use Rattle.std.proofs.lemmas.Bool.{eq-eqb}
 use Rattle.affine_core.specs.declared.form.Form.{Form}
 use Rattle.source_tree.specs.Gives.{values}
-use Rattle.sanlp.specs.Order.{common_loops, PrecedesWithin}
+use Rattle.sanlp.specs.Order.{PrecedesWithin}
 use Rattle.source_tree.specs.Places.{order_rows}
 use Rattle.source_tree.specs.Rows.{RowExpr, Take, one_less, minus, equal_rows}
 use Rattle.source_tree.proofs.MetRows.{AreMet, AreMet-append, AreMet-equal_rows}
@@ -66,10 +65,6 @@ same_all (suc c) (x ∷ a) (y ∷ b) h k s =
     let t : a ≡ b = same_all c a b (omega arith) (omega arith) s.1 in
     let e : x ≡ y = s.0 in
     cc
-
-pub common_same : (xs : List ℕ) → common_loops xs xs ≡ length xs
-common_same [] = refl
-common_same (x ∷ xs) = ap (λ b. cond b (suc (common_loops xs xs)) 0) (eq-eqb x x refl) ∙ ap suc (common_same xs)
 
 pub neither_less : (u s : ℕ) → nat_lt u s ≡ false → nat_lt s u ≡ false → u ≡ s
 neither_less u s e f = grind arith

@@ -48,7 +48,7 @@ same_terms_behind rows more (t ∷ ts) h =
       same_terms_behind rows more ts (All-tail (λ (t : Term). t.row < length rows) t ts h),
     )
 
-adds_behind : (vars : ℕ) (rows more : List Form) (cut : Cut) (row : Form) → AddsRow vars rows cut row
+pub adds_behind : (vars : ℕ) (rows more : List Form) (cut : Cut) (row : Form) → AddsRow vars rows cut row
     → AddsRow vars (rows ++ more) cut row
 adds_behind vars rows more cut row h = record {
   divisor = h.divisor;
@@ -59,7 +59,7 @@ adds_behind vars rows more cut row h = record {
   is = h.is;
 }
 
-add_behind : (vars : ℕ) (rows more : List Form) (cuts : List Cut) (added : List Form) → AddRows vars rows cuts added
+pub add_behind : (vars : ℕ) (rows more : List Form) (cuts : List Cut) (added : List Form) → AddRows vars rows cuts added
     → AddRows vars (rows ++ more) cuts added
 add_behind vars rows more [] [] h = tt
 add_behind vars rows more [] (row ∷ added) h = absurd h

@@ -7,7 +7,7 @@ use Rattle.std.proofs.Common.{◌≡◌, ◌<◌, ℕ, ℤ, pos, ◌≤ℤ◌, L
 use Rattle.std.specs.Prelude.{Option, Some, None, All, slice_get}
 use Rattle.std.specs.Option.{option_and_then}
 use Rattle.std.proofs.lemmas.List.Elements.{All-nil, All-cons, All-head, All-tail}
-use Rattle.std.proofs.lemmas.Option.{same_Some}
+use Rattle.plain_data.proofs.Options.{option_and_then-same}
 use Rattle.affine_core.specs.declared.form.Form.{Form}
 use Rattle.affine_core.specs.Affine.{constant_form, form_product, form_sum}
 use Rattle.affine_core.specs.Within.{form_in_128_bits}
@@ -45,9 +45,6 @@ at_split form above below =
     ap sums (sym (rolls-Split form above below))
     ∙ fold-roll-Proof (Option (List Term)) sums_step (layer.Split form above below)
 
-pub same_terms : (ts us : List Term) → Sum ts ≡ Sum us → ts ≡ us
-same_terms ts us e = same_Some ts us (sym (at_sum ts) ∙ ap sums e ∙ at_sum us)
-
 -- the sum of terms that refute
 pub record IsRefutingSum (vars : ℕ) (rows : List Form) (ts : List Term) : Type 0 where
   pub sum : Form
@@ -57,7 +54,8 @@ pub record IsRefutingSum (vars : ℕ) (rows : List Form) (ts : List Term) : Type
 refuting_from : (vars : ℕ) (rows : List Form) (p : Proof) (ts : List Term) → Refutes vars rows p → p ≡ Sum ts
     → IsRefutingSum vars rows ts
 refuting_from vars _ _ ts (by_sum rows p terms sum is s end) e =
-    let same : terms ≡ ts = same_terms terms ts (sym is ∙ e) in
+    let whole : Sum terms ≡ Sum ts = sym is ∙ e in
+    let same : terms ≡ ts = cc in
     record { sum = sum; is_sum = subst (λ ts. IsSumOf vars rows ts sum) same s; ends = end }
 refuting_from vars _ _ ts (by_cut rows p d terms rest sum is h s div more) e =
     absurd (let no : None ≡ Some ts = sym (at_cut d terms rest) ∙ ap sums (sym is ∙ e) ∙ at_sum ts in cc)
@@ -86,11 +84,6 @@ added sum times found =
     option_and_then (λ row. option_and_then (λ more. form_in_128_bits (form_sum sum more))
     (form_in_128_bits (form_product times row))) found
 
-then_same : (f g : Form → Option Form) → ((next : Form) → f next ≡ g next) → (o : Option Form)
-    → option_and_then f o ≡ option_and_then g o
-then_same f g h None = refl
-then_same f g h (Some next) = h next
-
 same_sum : (rows other : List Form) (ts us : List Term) (sum : Form) → AreSameTerms rows other ts us
     → sum_onto other sum us ≡ sum_onto rows sum ts
 same_sum rows other [] [] sum h = refl
@@ -99,7 +92,7 @@ same_sum rows other (t ∷ ts) [] sum h = absurd h
 same_sum rows other (t ∷ ts) (u ∷ us) sum h =
     ap (λ found. option_and_then (λ next. sum_onto other next us) (added sum u.times found)) h.0.row
     ∙ ap (λ z. option_and_then (λ next. sum_onto other next us) (added sum z (slice_get rows t.row))) h.0.times
-    ∙ then_same (λ next. sum_onto other next us) (λ next. sum_onto rows next ts)
+    ∙ option_and_then-same (λ next. sum_onto other next us) (λ next. sum_onto rows next ts)
     (λ next. same_sum rows other ts us next h.1) (added sum t.times (slice_get rows t.row))
 
 same_inside : (rows other : List Form) (ts us : List Term) → AreSameTerms rows other ts us

@@ -91,8 +91,8 @@ divided_terms d a b (c ∷ cs) (f ∷ place) part positive h =
           omega (arith, ints, rest, term, split, ap (λ z. z *ℤ pos d) same)
 
 -- the one row of a Cut, once
-one_row : (number : ℕ → ℤ) (k : ℕ) → weighted_sum number (once_row k ∷ []) ≡ number k
-one_row number k = omega (arith, ints)
+pub weighted_sum-once : (number : ℕ → ℤ) (k : ℕ) → weighted_sum number (once_row k ∷ []) ≡ number k
+weighted_sum-once number k = omega (arith, ints)
 
 module _ (rows : List Form) (d k : ℕ) (form : Form) (place : List Form) (positive : 0 < d) (inside : k < length rows)
     (divisible : All (λ c. unsigned_abs c % d ≡ 0) form.coefs) where
@@ -120,7 +120,7 @@ module _ (rows : List Form) (d k : ℕ) (form : Form) (place : List Form) (posit
     constant =
         (let sum : weighted_sum (row_part rows the_constant) (once_row k ∷ [])
         ≡ form.constant +ℤ (more the_constant *ℤ pos d) =
-        omega (arith, ints, one_row (row_part rows the_constant) k, is the_constant, terms the_constant) in
+        omega (arith, ints, weighted_sum-once (row_part rows the_constant) k, is the_constant, terms the_constant) in
         ap (λ z. floor z d) sum ∙ floor_shifted form.constant (more the_constant) d positive
         ∙ back (floor form.constant d) (parts_of (at_place quotient place) the_constant));
     coefs = λ i.
@@ -129,7 +129,7 @@ module _ (rows : List Form) (d k : ℕ) (form : Form) (place : List Form) (posit
         omega (
           arith,
           ints,
-          one_row (row_part rows (the_coefficient i)) k,
+          weighted_sum-once (row_part rows (the_coefficient i)) k,
           is (the_coefficient i),
           terms (the_coefficient i),
         ) in
@@ -155,7 +155,7 @@ module _ (rows : List Form) (d k : ℕ) (form : Form) (place : List Form) (posit
         omega (
           arith,
           ints,
-          one_row (row_part rows the_constant) k,
+          weighted_sum-once (row_part rows the_constant) k,
           is the_constant,
           terms the_constant,
           opposite,
@@ -172,7 +172,7 @@ module _ (rows : List Form) (d k : ℕ) (form : Form) (place : List Form) (posit
         omega (
           arith,
           ints,
-          one_row (row_part rows (the_coefficient i)) k,
+          weighted_sum-once (row_part rows (the_coefficient i)) k,
           is (the_coefficient i),
           terms (the_coefficient i),
           opposite,

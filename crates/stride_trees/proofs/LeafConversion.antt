@@ -11,13 +11,13 @@ use Rattle.std.specs.List.{flat_map}
 use Rattle.std.specs.Option.{option_and_then}
 use Rattle.std.proofs.lemmas.List.{length-map}
 use Rattle.std.proofs.lemmas.List.Elements.{All-nil, All-cons, All-append, All-head, All-tail, All-weaker}
+use Rattle.sanlp.proofs.Precedence.{common_loops-same}
 use Rattle.affine_core.specs.declared.form.Form.{Form}
 use Rattle.affine_core.specs.Affine.{form_at}
 use Rattle.int_polyhedra.specs.declared.system.Proof.{Proof}
 use Rattle.difference_graphs.specs.Level.{common_of}
 use Rattle.difference_graphs.specs.Simple.{IsLightSum, IsSimple}
 use Rattle.difference_graphs.specs.Systems.{at_test, at_writer, at_zero, later_systems, none_systems, place_systems, IsCheckedFor}
-use Rattle.difference_graphs.proofs.ProblemBounds.{common_same}
 use Rattle.difference_graphs.proofs.Just.{later_system, none_system}
 use Rattle.difference_graphs.proofs.OrderEdges.{length_variables}
 use Rattle.difference_graphs.proofs.ZeroSystems.{level_exists, variables_taken}
@@ -205,11 +205,11 @@ all_parts P (p ∷ ps) qs h =
     let rest = all_parts P ps qs (All-tail P p (ps ++ qs) h) in
     (All-cons P p ps (All-head P p (ps ++ qs) h) rest.0, rest.1)
 
-differ_count : (writes reads place : List Form) → length writes ≡ length reads
+pub length-differ_rows : (writes reads place : List Form) → length writes ≡ length reads
     → length (differ_rows writes reads place) ≡ 2 * length writes
-differ_count [] reads place e = refl
-differ_count (write ∷ writes) [] place e = absurd (omega arith)
-differ_count (write ∷ writes) (read ∷ reads) place e = omega (arith, differ_count writes reads place (omega (arith, e)))
+length-differ_rows [] reads place e = refl
+length-differ_rows (write ∷ writes) [] place e = absurd (omega arith)
+length-differ_rows (write ∷ writes) (read ∷ reads) place e = omega (arith, length-differ_rows writes reads place (omega (arith, e)))
 
 reads_count : (vars depth : ℕ) (places : List ℕ) (writes reads : List Form) → length writes ≡ length reads
     → length writes ≡ length (problem_reads vars depth places writes reads)
@@ -325,7 +325,7 @@ module _ (s : Strides) (strided : IsStrided s) (places : List ℕ) (here : ℕ) 
 
       further_is : further ≡ order_rows loops false place (writer_place c w)
       further_is = ap (λ n. order_rows n (nat_lt w.number w.number) place (writer_place c w))
-          (common_same w.statement.loops)
+          (common_loops-same w.statement.loops)
           ∙ ap (λ less. order_rows loops less place (writer_place c w)) (ltb-same w.number)
 
       further_count : length further ≡ loops
@@ -348,7 +348,7 @@ module _ (s : Strides) (strided : IsStrided s) (places : List ℕ) (here : ℕ) 
         length-map w'.statement.rows (λ row. with_rows c (below_zero (at_place row place) ∷ [])),
         length-map w.statement.rows divided_form,
         length-map (differ_rows w'.access.subscripts r'.access.subscripts place) (λ row. with_rows c (row ∷ [])),
-        differ_count w'.access.subscripts r'.access.subscripts place
+        length-differ_rows w'.access.subscripts r'.access.subscripts place
             (length-map w.access.subscripts problem_write
             ∙ reads_count c.vars (length r.statement.loops) places w.access.subscripts r.access.subscripts fits.even),
         length-map w.access.subscripts problem_write,

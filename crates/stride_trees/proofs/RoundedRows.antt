@@ -29,6 +29,7 @@ use Rattle.stride_rows.specs.declared.cuts.Cut.{Cut}
 use Rattle.stride_rows.proofs.CutRows.{cut_adds, cuts_refute, IsAdded, IsMultipleOf}
 use Rattle.stride_rows.proofs.Floors.{floor_multiple}
 use Rattle.stride_rows.proofs.Indivisible.{once_row}
+use Rattle.stride_rows.proofs.WriterCuts.{weighted_sum-once}
 
 -- one Cut, and the Sum of what it adds, so many times, and the second row
 abbrev pub rounded_proof : ℤ → ℕ → ℕ → ℕ → Proof
@@ -60,9 +61,6 @@ module _ (vars : ℕ) (rows : List Form) (d up down : ℕ) (a b : RowParts) (quo
   cut_row the_constant = floor (a the_constant) d
   cut_row (the_coefficient i) = quotient i
 
-  one_row : (number : ℕ → ℤ) (k : ℕ) → weighted_sum number (once_row k ∷ []) ≡ number k
-  one_row number k = omega (arith, ints)
-
   abbrev cut : Cut
   cut = record { divisor = pos d; terms = once_row up ∷ [] }
 
@@ -70,8 +68,8 @@ module _ (vars : ℕ) (rows : List Form) (d up down : ℕ) (a b : RowParts) (quo
   multiple = record {
     name_rows = All-cons (λ (t : Term). t.row < length rows) (once_row up) [] h.up_in (All-nil _);
     not_negative = All-cons (λ (t : Term). pos 0 ≤ℤ t.times) (once_row up) [] (omega (arith, ints)) (All-nil _);
-    constant = ap (λ z. floor z d) (one_row (row_part rows the_constant) up ∙ h.above the_constant);
-    coefs = λ i. one_row (row_part rows (the_coefficient i)) up ∙ h.above (the_coefficient i) ∙ h.exact i;
+    constant = ap (λ z. floor z d) (weighted_sum-once (row_part rows the_constant) up ∙ h.above the_constant);
+    coefs = λ i. weighted_sum-once (row_part rows (the_coefficient i)) up ∙ h.above (the_coefficient i) ∙ h.exact i;
   }
 
   added : IsAdded vars rows cut cut_row

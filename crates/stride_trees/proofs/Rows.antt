@@ -16,6 +16,7 @@ use Rattle.difference_graphs.proofs.OrderEdges.{variable_over, variable_within}
 use Rattle.difference_graphs.proofs.RowBounds.{farther_row, minus_row, most_made, most_placed, most_taken, one_less_row, placed_row}
 use Rattle.difference_graphs.proofs.RowBounds.{taken_row, AreSmall, AreTaken, IsSmallRow, IsTaken, number_row}
 use Rattle.plain_data.proofs.Tests.{ltb-zero}
+use Rattle.plain_data.proofs.Lists.{slice_get-append_right}
 use Rattle.row_sums.proofs.Within.{IsWithin-weaker}
 use Rattle.sanlp.specs.WellFormed.{form_fits}
 use Rattle.source_tree.specs.Places.{at_place, cell_rows, order_rows}
@@ -23,9 +24,6 @@ use Rattle.source_tree.specs.Rows.{RowExpr, Take, Plus, equal_rows, minus, numbe
 use Rattle.source_tree.specs.Systems.{multiple, undivided_rows}
 
 -- Numbers of rows
-
-pub get_behind_two : (x y : RowExpr) (rows : List RowExpr) (k : ℕ) → slice_get (x ∷ y ∷ rows) (2 + k) ≡ slice_get rows k
-get_behind_two x y rows k = let e : 2 + k ≡ suc (suc k) = omega arith in ap (slice_get (x ∷ y ∷ rows)) e
 
 -- the two rows of a subscript
 pub record AreCellRows (rows : List RowExpr) (i : ℕ) (write read : Form) (place : List Form) : Type 0 where
@@ -55,8 +53,8 @@ cells_at (w ∷ writes) (r ∷ reads) place (suc i) write read more e f =
     let even : 2 * suc i ≡ 2 + 2 * i = omega arith in
     let odd : 2 * suc i + 1 ≡ 2 + (2 * i + 1) = omega arith in
     record {
-      first = ap (slice_get (x ∷ y ∷ rows)) even ∙ get_behind_two x y rows (2 * i) ∙ rest.first;
-      second = ap (slice_get (x ∷ y ∷ rows)) odd ∙ get_behind_two x y rows (2 * i + 1) ∙ rest.second;
+      first = ap (slice_get (x ∷ y ∷ rows)) even ∙ slice_get-append_right (x ∷ y ∷ []) rows (2 * i) ∙ rest.first;
+      second = ap (slice_get (x ∷ y ∷ rows)) odd ∙ slice_get-append_right (x ∷ y ∷ []) rows (2 * i + 1) ∙ rest.second;
     }
 
 next_less : (p c : ℕ) → nat_lt (suc p) (suc c) ≡ nat_lt p c

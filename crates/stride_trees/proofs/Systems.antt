@@ -57,7 +57,7 @@ use Rattle.stride_rows.proofs.Indivisible.{number_part, undivided_is_cut_sum, un
 use Rattle.stride_rows.proofs.Indivisible.{AreUndivided}
 use Rattle.stride_trees.proofs.Lists.{forms_count}
 use Rattle.stride_trees.proofs.NoSystems.{stride_rows, AreStrideRows}
-use Rattle.stride_trees.proofs.Rows.{cells_at, get_behind_two, level_count}
+use Rattle.stride_trees.proofs.Rows.{cells_at, level_count}
 use Rattle.stride_trees.proofs.Rows.{small_cells, small_undivided, AreCellRows}
 use Rattle.stride_rows.proofs.Singles.{loop_inside}
 
@@ -295,7 +295,7 @@ module _ (n : Nest) (r w : Occurrence) (p : ℕ) (c : Context) (here i : ℕ) (w
 
   at_cell : (k : ℕ) → slice_get own (2 + (length w.statement.rows + k)) ≡ slice_get (cells ++ level.rows) k
   at_cell k =
-      get_behind_two low_expr high_expr (domain ++ (cells ++ level.rows)) (length w.statement.rows + k)
+      slice_get-append_right (low_expr ∷ high_expr ∷ []) (domain ++ (cells ++ level.rows)) (length w.statement.rows + k)
       ∙ ap (λ n. slice_get (domain ++ (cells ++ level.rows)) (n + k)) (sym (length-domain_rows w.statement.rows place))
       ∙ slice_get-append_right domain (cells ++ level.rows) k
 

@@ -3,59 +3,21 @@
 -- The facts go from the last one on. Where the proof names the row, that is moved behind the others, where the Cut adds it;
 -- where it doesn't, the row is away. The Cuts' terms name rows before all facts, so what a Cut adds is the same whichever
 -- facts are still there.
-use Rattle.std.proofs.Common.{◌≡◌, ◌+◌, ◌<◌, ℕ, List, [], ◌∷◌, ◌++◌, length, Bool, true, false, cond}
+use Rattle.std.proofs.Common.{◌≡◌, ◌+◌, ℕ, List, [], ◌∷◌, ◌++◌, length, Bool, true, false, cond}
 use Rattle.std.proofs.Common.{refl, sym, subst, arith, append_assoc, length-append}
-use Rattle.std.specs.Prelude.{All}
 use Rattle.std.proofs.lemmas.List.{append-nil}
-use Rattle.std.proofs.lemmas.List.Elements.{All-head, All-tail}
 use Rattle.affine_core.specs.declared.form.Form.{Form}
 use Rattle.int_polyhedra.specs.declared.system.Proof.{Proof}
 use Rattle.int_polyhedra.specs.declared.system.Proof.TheViews as proof
-use Rattle.int_polyhedra.specs.declared.system.Term.{Term}
 use Rattle.int_polyhedra.specs.Rules.{by_cut, Refutes}
-use Rattle.plain_data.proofs.Lists.{slice_get-append_left}
 use Rattle.stride_rows.specs.Cuts.{AddRows, AddsRow}
 use Rattle.stride_rows.specs.declared.cuts.Cut.{Cut}
-use Rattle.stride_rows.proofs.Sums.{same_is_sum, AreSameTerms}
+use Rattle.stride_rows.proofs.CutRows.{adds_behind, add_behind}
 use Rattle.tree_facts.specs.Behind.{proof_behind}
 use Rattle.tree_facts.specs.Cuts.{proof_by_cut, proof_by_cuts}
 use Rattle.tree_facts.proofs.Moving.{refutes_behind}
 use Rattle.tree_trim.specs.Proofs.{names_row, proof_without}
 use Rattle.tree_trim.proofs.Refuting.{refutes_without}
-
--- More rows behind
-
-same_behind : (rows more : List Form) (ts : List Term) → All (λ t. t.row < length rows) ts
-    → AreSameTerms rows (rows ++ more) ts ts
-same_behind rows more [] h = tt
-same_behind rows more (t ∷ ts) h =
-    let lt : t.row < length rows = All-head (λ (t : Term). t.row < length rows) t ts h in (
-      record {
-        inside = omega (arith, lt, length-append rows more);
-        row = slice_get-append_left rows more t.row lt;
-        times = refl;
-      },
-      same_behind rows more ts (All-tail (λ (t : Term). t.row < length rows) t ts h),
-    )
-
-pub adds_more : (vars : ℕ) (rows more : List Form) (cut : Cut) (row : Form) → AddsRow vars rows cut row
-    → AddsRow vars (rows ++ more) cut row
-adds_more vars rows more cut row h = record {
-  divisor = h.divisor;
-  sum = h.sum;
-  is_sum = same_is_sum vars rows (rows ++ more) cut.terms cut.terms h.sum
-      (same_behind rows more cut.terms h.is_sum.name_rows) h.is_sum;
-  divisible = h.divisible;
-  is = h.is;
-}
-
-pub add_more : (vars : ℕ) (rows more : List Form) (cuts : List Cut) (facts : List Form) → AddRows vars rows cuts facts
-    → AddRows vars (rows ++ more) cuts facts
-add_more vars rows more [] [] h = tt
-add_more vars rows more [] (row ∷ facts) h = absurd h
-add_more vars rows more (cut ∷ cuts) [] h = absurd h
-add_more vars rows more (cut ∷ cuts) (row ∷ facts) h =
-    (adds_more vars rows more cut row h.0, add_more vars rows more cuts facts h.1)
 
 -- One fact
 
@@ -71,7 +33,7 @@ module _ (vars : ℕ) (front after : List Form) (row : Form) (cut : Cut) (p : Pr
       (cond b (proof.Cut cut.divisor cut.terms (proof_behind k n p)) (proof_without k p))
   by_names false none h r = refutes_without vars front row (front ++ row ∷ after) p r after refl none
   by_names true named h r =
-      let a : AddsRow vars (front ++ after) cut row = adds_more vars front after cut row h in
+      let a : AddsRow vars (front ++ after) cut row = adds_behind vars front after cut row h in
       by_cut (front ++ after) (proof.Cut cut.divisor cut.terms (proof_behind k n p)) cut.divisor cut.terms
       (proof_behind k n p) a.sum refl a.divisor a.is_sum a.divisible
       (subst (λ row. Refutes vars ((front ++ after) ++ row ∷ []) (proof_behind k n p)) a.is
@@ -95,7 +57,7 @@ refutes_by_cuts vars front (row ∷ facts) after (cut ∷ cuts) p h r =
     let rows_one : length longer + length after ≡ length front + length after + 1 = omega (arith, one) in
     let rest : Proof = proof_by_cuts (length front + 1) (length front + length after + 1) cuts p in
     let inner : Refutes vars (longer ++ after) (proof_by_cuts (length longer) (length longer + length after) cuts p) =
-    refutes_by_cuts vars longer facts after cuts p (add_more vars front (row ∷ []) cuts facts h.1)
+    refutes_by_cuts vars longer facts after cuts p (add_behind vars front (row ∷ []) cuts facts h.1)
     (subst (λ rows. Refutes vars rows p) (sym (append_assoc front (row ∷ []) (facts ++ after))) r) in
     let there : Refutes vars (front ++ row ∷ after) rest =
     subst (λ rows. Refutes vars rows rest) (append_assoc front (row ∷ []) after)

@@ -4,18 +4,16 @@
 -- are what the Cuts add to the context's rows, widened; so each proof becomes one without the facts.
 use Rattle.std.proofs.Common.{◌≡◌, ◌+◌, ◌≤◌, ℕ, suc, List, [], ◌∷◌, ◌++◌, length, map}
 use Rattle.std.proofs.Common.{refl, sym, ap, ◌∙◌, subst, arith, append_assoc, length-append}
-use Rattle.std.specs.Prelude.{Some, All, slice_get}
+use Rattle.std.specs.Prelude.{Some, All}
 use Rattle.std.specs.Option.{option_and_then}
 use Rattle.std.proofs.lemmas.List.Elements.{All-head, All-tail}
 use Rattle.std.proofs.lemmas.Option.{option_and_then_some, same_Some}
 use Rattle.affine_core.specs.declared.form.Form.{Form}
 use Rattle.affine_core.specs.Affine.{widened_form}
-use Rattle.difference_graphs.proofs.MadeRows.{taken_made}
+use Rattle.difference_graphs.proofs.MadeRows.{taken_all}
 use Rattle.difference_graphs.proofs.RowBounds.{forms_append}
 use Rattle.int_polyhedra.specs.declared.system.Proof.{Proof}
 use Rattle.int_polyhedra.specs.Rules.{Refutes}
-use Rattle.int_polyhedra.specs.Systems.{AreOver}
-use Rattle.int_polyhedra.proofs.Variables.{over_at}
 use Rattle.row_sums.proofs.RowParts.{made_widens}
 use Rattle.source_tree.specs.Checked.{AreRefuted, IsRefuted}
 use Rattle.source_tree.specs.Rows.{RowExpr, RowSystem, Take, row_form, row_forms}
@@ -26,6 +24,7 @@ use Rattle.tree_facts.specs.Facts.{fact_rows, AddFacts, HoldsWithoutFacts}
 use Rattle.tree_facts.proofs.ByCuts.{refutes_by_cuts}
 use Rattle.tree_facts.proofs.Wider.{add_wider}
 use Rattle.tree_trim.proofs.Systems.{behind}
+use Rattle.tree_trim.proofs.Trimming.{rows_made}
 
 -- rows one behind the other, as they are made
 record AreParted (vars : ℕ) (xs ys : List RowExpr) (rows : List Form) : Type 0 where
@@ -59,31 +58,13 @@ parted vars (x ∷ xs) ys rows made =
       count = ap suc h.count;
     })))
 
-pub facts_made : (vars : ℕ) (facts : List Form) → AreOver vars facts → row_forms vars (map Take facts) ≡ Some facts
-facts_made vars facts over = go facts (λ i row at. over_at vars facts i row over at) where
-  go : (fs : List Form) → ((i : ℕ) (row : Form) → slice_get fs i ≡ Some row → length row.coefs ≡ vars)
-      → row_forms vars (map Take fs) ≡ Some fs
-  go [] h = refl
-  go (f ∷ fs) h =
-      ap (option_and_then (λ row. option_and_then (λ rest. Some (row ∷ rest)) (row_forms vars (map Take fs))))
-      (taken_made vars f (h 0 f refl))
-      ∙ ap (option_and_then (λ rest. Some (f ∷ rest))) (go fs (λ i row at. h (suc i) row at))
-
-made_count : (vars : ℕ) (es : List RowExpr) (fs : List Form) → row_forms vars es ≡ Some fs → length es ≡ length fs
-made_count vars [] fs is = ap length (same_Some [] fs is)
-made_count vars (e ∷ es) fs is =
-    option_and_then_some (λ row. option_and_then (λ rest. Some (row ∷ rest)) (row_forms vars es))
-    (row_form vars e) fs is
-    (λ row row_is is'. option_and_then_some (λ rest. Some (row ∷ rest)) (row_forms vars es) fs is'
-    (λ rest rest_is end. ap suc (made_count vars es rest rest_is) ∙ ap length (same_Some (row ∷ rest) fs end)))
-
 pub system_away : HoldsWithoutFacts
 system_away c cuts facts v more p h le r =
     let front : List Form = map (widened_form v) h.rows in
     let told : List Form = map (widened_form v) facts in
     let front_made : row_forms v c.rows ≡ Some front = made_widens c.vars v c.rows h.rows le h.made in
     let told_made : row_forms v (map Take facts) ≡ Some told =
-    made_widens c.vars v (map Take facts) facts le (facts_made c.vars facts h.facts_over) in
+    made_widens c.vars v (map Take facts) facts le (taken_all c.vars facts h.facts_over) in
     let first : AreParted v c.rows (fact_rows facts more) r.rows =
     parted v c.rows (fact_rows facts more) r.rows r.are_made in
     let second : AreParted v (map Take facts) more first.back =
@@ -99,7 +80,7 @@ system_away c cuts facts v more p h le r =
     (subst (λ rows. Refutes v rows p) rows_are r.refuted) in
     let front_count : length front ≡ length c.rows = ap length (sym same_front) ∙ first.count in
     let counts : length front + length after ≡ length (c.rows ++ more) =
-    omega (arith, front_count, made_count v more after second.back_made, length-append c.rows more) in
+    omega (arith, front_count, rows_made v more after second.back_made, length-append c.rows more) in
     record {
       rows = front ++ after;
       are_made = forms_append v c.rows more front after front_made second.back_made;

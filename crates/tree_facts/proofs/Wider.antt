@@ -3,7 +3,7 @@
 -- A sum of rows is a row that is made from them, and a row that can be made can be made over more variables, and is then
 -- the same row widened: so the sum of widened rows is the widened sum, and no step overflows where none did before. The new
 -- coefficients are 0, which each divisor divides, with the quotient 0.
-use Rattle.std.proofs.Common.{◌≡◌, ◌+◌, ◌-◌, ◌%◌, ◌≤◌, ◌<◌, ℕ, zero, suc, ℤ, pos, ◌*ℤ◌, ◌≤ℤ◌, List, [], ◌∷◌, ◌++◌, length}
+use Rattle.std.proofs.Common.{◌≡◌, ◌+◌, ◌-◌, ◌%◌, ◌≤◌, ◌<◌, ℕ, zero, suc, ℤ, pos, ◌*ℤ◌, List, [], ◌∷◌, ◌++◌, length}
 use Rattle.std.proofs.Common.{map, replicate, cond, refl, sym, ap, ◌∙◌, arith}
 use Rattle.std.specs.Prelude.{Option, Some, None, All, slice_get, unsigned_abs}
 use Rattle.std.specs.Option.{option_and_then, option_map, option_map_or}
@@ -15,6 +15,7 @@ use Rattle.std.proofs.lemmas.Option.{option_and_then_some, same_Some, slice_get-
 use Rattle.affine_core.specs.declared.form.Form.{Form}
 use Rattle.affine_core.specs.Affine.{constant_form, form_product, form_sum, widened_form}
 use Rattle.affine_core.specs.Within.{form_in_128_bits}
+use Rattle.affine_core.proofs.Integers.{unsigned_abs-positive}
 use Rattle.difference_graphs.proofs.MadeRows.{taken_made, widened_same}
 use Rattle.int_polyhedra.specs.declared.system.Term.{Term}
 use Rattle.int_polyhedra.specs.Rules.{IsSumOf}
@@ -163,9 +164,6 @@ quotient_wider more d f h =
     ∙ ap (λ zs. cs ++ zs) (sym (floor_zeros d (more - length f.coefs) h))
     ∙ sym (map-append (λ c. floor c d) f.coefs (replicate (more - length f.coefs) (pos 0))))
 
-positive : (d : ℤ) → pos 1 ≤ℤ d → 0 < unsigned_abs d
-positive d h = omega (arith, ints, h)
-
 adds_wider : (vars more : ℕ) (rows : List Form) (cut : Cut) (row : Form) → vars ≤ more → AreOver vars rows
     → AddsRow vars rows cut row → AddsRow more (map (widened_form more) rows) cut (widened_form more row)
 adds_wider vars more rows cut row le over h =
@@ -177,8 +175,8 @@ adds_wider vars more rows cut row le over h =
       divisible = All-append (λ c. unsigned_abs c % d ≡ 0) h.sum.coefs
           (replicate (more - length h.sum.coefs) (pos 0)) h.divisible
           (All-replicate (λ c. unsigned_abs c % d ≡ 0) (more - length h.sum.coefs) (pos 0)
-          (zero_divided d (positive cut.divisor h.divisor)));
-      is = ap (widened_form more) h.is ∙ quotient_wider more d h.sum (positive cut.divisor h.divisor);
+          (zero_divided d (unsigned_abs-positive cut.divisor h.divisor)));
+      is = ap (widened_form more) h.is ∙ quotient_wider more d h.sum (unsigned_abs-positive cut.divisor h.divisor);
     }
 
 pub add_wider : (vars more : ℕ) (rows : List Form) (cuts : List Cut) (facts : List Form) → vars ≤ more

@@ -42,11 +42,16 @@ use Rattle.text_out.specs.Words.{line_text}
 proof_line_codec : IsCodec (line proof_line) (λ l. line_text (proof_words l)) ProofLineIsInRange
 proof_line_codec = line_codec proof_line proof_words ProofLineIsInRange proof_line_spelled
 
+-- no proof nests no level
+pub no_proof : (p : Proof) → ProofIsInRange 0 p → ⊥
+unfolding ProofIsInRange
+no_proof p r = r
+
 -- a step is in range where its layer is
-in_range : (levels : ℕ) (p : Proof) (y : proof_layer.Proof-F Proof) → out-Proof p ≡ y
+pub proof_in_range : (levels : ℕ) (p : Proof) (y : proof_layer.Proof-F Proof) → out-Proof p ≡ y
     → ProofStepIsInRange (ProofIsInRange levels) y → ProofIsInRange (suc levels) p
 unfolding ProofIsInRange
-in_range levels p y is k = subst (ProofStepIsInRange (ProofIsInRange levels)) (sym is) k
+proof_in_range levels p y is k = subst (ProofStepIsInRange (ProofIsInRange levels)) (sym is) k
 
 -- a text behind which more stands
 two_parts : (a b c d : List ℕ) → a ≡ b ++ c → a ++ d ≡ b ++ (c ++ d)
@@ -141,7 +146,7 @@ module _ (levels : ℕ) (inner : IsCodec (proof levels) proof_text (ProofIsInRan
   behind_forth (of_proof.Sum terms) at next p all k text e =
       of_value proof_text (ProofIsInRange (suc levels)) all (Sum terms) p at next e (
         text ∙ ap (λ (front : List ℕ). front ++ at.text) (sym (text_sum terms)),
-        in_range levels (Sum terms) (proof_layer.Sum terms) (outs-Sum terms) k,
+        proof_in_range levels (Sum terms) (proof_layer.Sum terms) (outs-Sum terms) k,
       )
   behind_forth (of_proof.Cut divisor terms) at next p all k text e =
       let one = followed (proof levels at) (λ rest at. Ok (Cut divisor terms rest, at)) p next e in
@@ -151,7 +156,7 @@ module _ (levels : ℕ) (inner : IsCodec (proof levels) proof_text (ProofIsInRan
         text ∙ ap (λ (more : List ℕ). cut_text divisor terms ++ more) rest.0
             ∙ sym (two_parts (proof_text whole) (cut_text divisor terms) (proof_text one.value) one.between.text
             (text_cut divisor terms one.value)),
-        in_range levels whole (proof_layer.Cut divisor terms one.value) (outs-Cut divisor terms one.value)
+        proof_in_range levels whole (proof_layer.Cut divisor terms one.value) (outs-Cut divisor terms one.value)
             (k.0, k.1, rest.1),
       )
   behind_forth (of_proof.Split form) at next p all k text e =
@@ -168,7 +173,7 @@ module _ (levels : ℕ) (inner : IsCodec (proof levels) proof_text (ProofIsInRan
             ∙ sym (append_assoc (proof_text one.value) (proof_text two.value) two.between.text))
             ∙ sym (two_parts (proof_text whole) (split_text form)
             (proof_text one.value ++ proof_text two.value) two.between.text (text_split form one.value two.value)),
-        in_range levels whole (proof_layer.Split form one.value two.value) (outs-Split form one.value two.value)
+        proof_in_range levels whole (proof_layer.Split form one.value two.value) (outs-Split form one.value two.value)
             (k, above.1, below.1),
       )
 

@@ -7,7 +7,7 @@
 -- that is why its number is the same in all steps of a proof.
 use Rattle.std.proofs.Common.{◌≡◌, ◌==◌, ◌+◌, ◌-◌, ◌≤◌, ◌<◌, ℕ, zero, suc, ◌⊎◌, inl, inr, ℤ, pos, ◌≤ℤ◌, List, []}
 use Rattle.std.proofs.Common.{◌∷◌, ◌++◌, length, map, Bool, true, false, refl, sym, ap, ◌∙◌, subst, arith}
-use Rattle.std.specs.Prelude.{Option, Some, None, All, slice_get, unsigned_abs}
+use Rattle.std.specs.Prelude.{Option, All, slice_get, unsigned_abs}
 use Rattle.std.specs.Option.{option_and_then}
 use Rattle.std.proofs.lemmas.Bool.{cases_order, eq-eqb, or_parts}
 use Rattle.std.proofs.lemmas.List.{append_assoc, length-append}
@@ -20,6 +20,7 @@ use Rattle.int_polyhedra.specs.declared.system.Term.{Term}
 use Rattle.int_polyhedra.specs.Rules.{by_cut, by_split, by_sum, IsSumOf, Refutes}
 use Rattle.int_polyhedra.specs.Steps.{quotient_row, sum_onto, sum_with}
 use Rattle.plain_data.proofs.Lists.{slice_get-append_right}
+use Rattle.plain_data.proofs.Options.{option_and_then-same}
 use Rattle.tree_trim.specs.Proofs.{names_row, number_without, proof_without, term_without, terms_name, terms_without}
 use Rattle.tree_trim.proofs.Naming.{names_cut, names_split, names_sum, without_cut, without_split, without_sum}
 
@@ -66,11 +67,6 @@ added sum times found =
     option_and_then (λ row. option_and_then (λ more. form_in_128_bits (form_sum sum more))
     (form_in_128_bits (form_product times row))) found
 
-goes_on : (f g : Form → Option Form) → ((next : Form) → f next ≡ g next) → (o : Option Form)
-    → option_and_then f o ≡ option_and_then g o
-goes_on f g h None = refl
-goes_on f g h (Some next) = h next
-
 module _ (before after : List Form) (row : Form) where
   abbrev k : ℕ
   k = length before
@@ -99,7 +95,7 @@ module _ (before after : List Form) (row : Form) where
       let n = or_parts (t.row == k) (terms_name k terms) none in
       ap (λ found. option_and_then (λ next. sum_onto others next (terms_without k terms)) (added sum t.times found))
       (found_without t.row n.0)
-      ∙ goes_on (λ next. sum_onto others next (terms_without k terms)) (λ next. sum_onto rows next terms)
+      ∙ option_and_then-same (λ next. sum_onto others next (terms_without k terms)) (λ next. sum_onto rows next terms)
       (λ next. sum_stays terms next n.1) (added sum t.times (slice_get rows t.row))
 
   inside : (terms : List Term) → terms_name k terms ≡ false → All (λ t. t.row < length rows) terms

@@ -105,7 +105,7 @@ module _ (pairs : List ReadAndWrite) (before : List RowExpr) (e : RowExpr) where
 
 -- Joined trees
 
-rows_made : (vars : ℕ) (es : List RowExpr) (rows : List Form) → row_forms vars es ≡ Some rows
+pub rows_made : (vars : ℕ) (es : List RowExpr) (rows : List Form) → row_forms vars es ≡ Some rows
     → length es ≡ length rows
 rows_made vars [] rows made = ap length (same_Some [] rows made)
 rows_made vars (e ∷ es) rows made =

@@ -20,12 +20,13 @@ use Rattle.channel_plan.specs.declared.plans.ChannelPlan.{ChannelPlan}
 use Rattle.channel_plan.specs.Plans.{plans_of, slot_plan, sources_at}
 use Rattle.channel_plan.specs.Tokens.{tokens_below, turn_of, turns_used, uses_of}
 use Rattle.channel_plan.proofs.PlanEnds.{plans_of-plan_of}
+use Rattle.channel_plan.proofs.OneSlot.{turn_of-own}
 use Rattle.net_core.specs.declared.network.Event.{Event}
 use Rattle.net_core.specs.declared.network.Event.TheVariants.{Get, Fire, Put}
 use Rattle.net_core.specs.Shape.{is_get}
 use Rattle.net_core.proofs.EventCounts.{count-append, count_cons}
 use Rattle.process_derive.specs.Scripts.{Usage, gets_for_uses, gets_of, point_events, puts_from, ref_of, usage}
-use Rattle.process_derive.proofs.Counts.{before_more, of_own}
+use Rattle.process_derive.proofs.Counts.{before_more}
 use Rattle.process_derive.proofs.Numbers.{before_within, gets_here}
 use Rattle.reorder_slots.specs.Slots.{gets_for}
 use Rattle.reorder_slots.proofs.Gets.{more_gets}
@@ -177,7 +178,7 @@ module _ (n : Nest) (c : ℕ) (plan : ChannelPlan) (found : slice_get (plans_of 
         arith,
         ap uses_made (add-one g),
         before_more sources g plan.writer (Some t) is,
-        ap length (of_own plan.writer t same),
+        ap length (turn_of-own plan.writer t same),
       )
 
   wanted_more : (g : ℕ) → gets_for (take (uses_made g) uses) ≤ gets_for (take (uses_made (suc g)) uses)

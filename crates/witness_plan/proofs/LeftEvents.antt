@@ -11,7 +11,6 @@ use Rattle.net_core.specs.declared.refs.Ref.{Ref}
 use Rattle.net_core.specs.Cuts.{advanced, cut_after, opening}
 use Rattle.net_core.specs.Machine.{Net}
 use Rattle.net_core.proofs.CutOrder.{advanced_here}
-use Rattle.net_core.proofs.ProgressLemmas.{some_left}
 use Rattle.plain_data.proofs.Lists.{drop-some}
 use Rattle.witness_plan.specs.Records.{left_after}
 use Rattle.witness_plan.specs.Steps.{point_length, put_length}

@@ -17,7 +17,7 @@ use Rattle.std.proofs.lemmas.List.Elements.{All-cons, All-head, All-nil, All-tai
 use Rattle.std.proofs.lemmas.Option.{slice_get-get_or}
 use Rattle.channel_plan.specs.Plans.{sources_at}
 use Rattle.channel_plan.specs.Tokens.{is_used, tokens_below, turn_of, turns_used, uses_of}
-use Rattle.channel_plan.proofs.Uses.{tokens_more}
+use Rattle.channel_plan.proofs.Uses.{tokens_more, tokens_below-more}
 use Rattle.net_core.proofs.EventCounts.{count_cons, count_mono, count_next}
 use Rattle.plain_data.proofs.Options.{option_map-some, option_and_then-some}
 use Rattle.reorder_slots.specs.Slots.{gets_for}
@@ -186,12 +186,6 @@ use_of turn (x ∷ used) (suc k) is =
     or_true true = refl
     or_true false = refl
 
-tokens_mono : (used : List ℕ) (g more : ℕ) → tokens_below used g ≤ tokens_below used (g + more)
-tokens_mono used g zero = let same : g + 0 ≡ g = omega arith in omega (arith, ap (tokens_below used) same)
-tokens_mono used g (suc more) =
-    let next : g + suc more ≡ g + more + 1 = omega arith in
-    omega (arith, tokens_mono used g more, ap (tokens_below used) next, tokens_more used (g + more))
-
 -- a token below the turns so far is one of their tokens
 pub token_below : (used : List ℕ) (turn most : ℕ) → turn < most → is_used used turn ≡ true
     → tokens_below used turn + 1 ≤ tokens_below used most
@@ -201,7 +195,7 @@ token_below used turn most lt named =
       arith,
       tokens_more used turn,
       ap (λ b. cond {A = ℕ} b 1 0) named,
-      tokens_mono used (turn + 1) (most - (turn + 1)),
+      tokens_below-more used (turn + 1) (most - (turn + 1)),
       ap (tokens_below used) whole,
     )
 

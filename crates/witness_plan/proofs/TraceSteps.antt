@@ -5,16 +5,15 @@
 -- in what it has left is that of this entry's point (PointEvents). With the process repeated so often the schedule is
 -- that of one entry more (`sequenced_more`), and at the end of the trace it is the sequential one. Whether the events can
 -- come in this order isn't asked here.
-use Rattle.std.proofs.Common.{◌≡◌, ℕ, suc, ◌-◌, ◌<◌, Some, List, ◌∷◌, ◌++◌, length, drop, replicate}
+use Rattle.std.proofs.Common.{◌≡◌, ℕ, ◌-◌, ◌<◌, Some, List, ◌∷◌, ◌++◌, length, drop, replicate}
 use Rattle.std.proofs.Common.{slice_get, sym, ap, ◌∙◌, arith}
-use Rattle.std.proofs.lemmas.List.{length-drop}
 use Rattle.std.proofs.lemmas.Option.{slice_get_within}
 use Rattle.channel_plan.specs.Plans.{turn_count}
 use Rattle.net_core.specs.declared.network.Network.{Network}
 use Rattle.net_core.specs.Cuts.{cut_after, opening}
 use Rattle.net_core.specs.Machine.{net_of}
 use Rattle.net_core.proofs.Entries.{turn_of_entry}
-use Rattle.plain_data.proofs.Lists.{drop_parts}
+use Rattle.plain_data.proofs.Lists.{left-first, left-length}
 use Rattle.process_derive.specs.Derived.{net}
 use Rattle.process_derive.specs.Scripts.{point_events, script}
 use Rattle.process_derive.proofs.Numbers.{count_processes, script_at}
@@ -22,7 +21,7 @@ use Rattle.sanlp.specs.declared.nest.Nest.{Nest}
 use Rattle.sanlp.specs.declared.nest.Point.{Point}
 use Rattle.sanlp.specs.Laws.{entries_of}
 use Rattle.sanlp.specs.Trace.{trace}
-use Rattle.sanlp.proofs.ReadCounts.{trace-statement}
+use Rattle.sanlp.proofs.ReadCounts.{trace-next_statement}
 use Rattle.witness_plan.specs.Records.{left_after}
 use Rattle.witness_plan.specs.Sequential.{sequential_schedule}
 use Rattle.witness_plan.specs.Steps.{point_length}
@@ -44,19 +43,6 @@ turn_exists n t p here =
 
 module _ (n : Nest) (left later : List Point) (p : Point) (e : drop (length (trace n) - length left) (trace n) ≡ left)
     (f : left ≡ p ∷ later) where
-  pub next_time : length (trace n) - length later ≡ suc (length (trace n) - length left)
-  next_time = omega (arith, length-drop (length (trace n) - length left) (trace n), ap length e, ap length f)
-
-  pub here : slice_get (trace n) (length (trace n) - length left) ≡ Some p
-  here = (drop_parts (trace n) (length (trace n) - length left) p later (e ∙ f)).0
-
-  pub left_later : drop (length (trace n) - length later) (trace n) ≡ later
-  left_later =
-      ap (λ k. drop k (trace n)) next_time ∙ (drop_parts (trace n) (length (trace n) - length left) p later (e ∙ f)).1
-
-  pub statement_exists : p.statement < length n.statements
-  statement_exists = trace-statement n (length (trace n) - length left) p here
-
   -- the turn of the entry
   abbrev turn : ℕ
   turn = turns_before (trace n) (length (trace n) - length left) p.statement
@@ -70,19 +56,20 @@ module _ (n : Nest) (left later : List Point) (p : Point) (e : drop (length (tra
 
     module _ (network : Network) (derived : network ≡ net n) where
       script_is : (net_of network).script p.statement ≡ script n p.statement
-      script_is = ap (λ x. (net_of x).script p.statement) derived ∙ script_at n p.statement statement_exists
+      script_is = ap (λ x. (net_of x).script p.statement) derived ∙ script_at n p.statement (trace-next_statement n left later p e f)
 
       pub process_exists : p.statement < length network.processes
       process_exists =
           let count : length (net n).processes ≡ length n.statements = count_processes n in
-          omega (arith, ap (λ (x : Network). length x.processes) derived, count, statement_exists)
+          omega (arith, ap (λ (x : Network). length x.processes) derived, count, (trace-next_statement n left later p e f))
 
       found_here : point_length (left_after (net_of network) schedule p.statement)
           ≡ length (point_events n p.statement turn)
       found_here =
           ap (λ xs. point_length (drop (cut_after opening schedule p.statement) xs)) script_is
           ∙ ap (λ k. point_length (drop k (script n p.statement))) stands_here
-          ∙ point_found n p.statement turn (turn_exists n (length (trace n) - length left) p here)
+          ∙ point_found n p.statement turn
+          (turn_exists n (length (trace n) - length left) p (left-first (trace n) left later p e f))
 
       pub sequenced_more : (more : List ℕ)
           → more ≡ schedule ++ replicate (point_length (left_after (net_of network) schedule p.statement)) p.statement
@@ -91,8 +78,9 @@ module _ (n : Nest) (left later : List Point) (p : Point) (e : drop (length (tra
           grown
           ∙ ap (λ m. schedule ++ replicate m p.statement) found_here
           ∙ ap (λ s. s ++ replicate (length (point_events n p.statement turn)) p.statement) before
-          ∙ sym (until_more (point_events n) (trace n) (length (trace n) - length left) p here)
-          ∙ ap (sequenced n) (sym next_time)
+          ∙ sym (until_more (point_events n) (trace n) (length (trace n) - length left) p
+          (left-first (trace n) left later p e f))
+          ∙ ap (sequenced n) (sym (left-length (trace n) left later p e f))
 
 -- the whole trace
 pub sequenced_all : (n : Nest) (schedule : List ℕ) → schedule ≡ sequenced n (length (trace n))

@@ -1,6 +1,6 @@
 use Rattle.std.proofs.Common.{◌≡◌, ℕ, suc, List, length, ap, ◌∙◌, arith}
+use Rattle.std.proofs.iter.SplitParts.{length_zero-nil}
 use Rattle.cert_text.specs.Stretches.{Stretch, stretches}
-use Rattle.cert_text.proofs.StretchLists.{no_entries}
 use Rattle.cert_text.proofs.writing.stretch_count.Goals as goal
 
 pub loop-entry-preserved : goal.loop-entry-preserved
@@ -22,5 +22,5 @@ pub returns : goal.returns
 returns c =
     let none : length (stretches c.loop-entry.rest.now) ≡ 0 =
     ap (λ (es : List ℕ). length (stretches es))
-    (no_entries c.loop-entry.rest.now c.in_default.ensures.cases) in
+    (length_zero-nil c.loop-entry.rest.now c.in_default.ensures.cases) in
     omega (arith, none, c.loop-entry.invariant.whole)

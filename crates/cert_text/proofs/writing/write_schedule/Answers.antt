@@ -1,7 +1,7 @@
 use Rattle.std.proofs.Common.{◌++◌, ℕ, List, append_assoc, append-nil, sym, ap, ◌∙◌}
+use Rattle.std.proofs.iter.SplitParts.{length_zero-nil}
 use Rattle.cert_text.specs.CertText.{entry_text, part_text, parts_text}
 use Rattle.cert_text.specs.Stretches.{stretch_blocks, stretch_part}
-use Rattle.cert_text.proofs.StretchLists.{no_entries}
 use Rattle.cert_text.proofs.Texts.{schedule_next}
 use Rattle.cert_text.proofs.writing.write_schedule.Goals as goal
 
@@ -30,6 +30,6 @@ returns g c =
       c.loop-entry.invariant.start,
       sym (append-nil text)
           ∙ ap (λ (es : List ℕ). text ++ parts_text entry_text (stretch_blocks es).parts)
-          (sym (no_entries c.loop-entry.rest.now c.in_default.ensures.cases))
+          (sym (length_zero-nil c.loop-entry.rest.now c.in_default.ensures.cases))
           ∙ c.loop-entry.invariant.whole,
     )

@@ -1,6 +1,6 @@
 use Rattle.std.proofs.Common.{rules}
 use Rattle.array_data.specs.Answer.{answer_text}
-use Rattle.io_edge.proofs.Fronts.{on_err}
+use Rattle.plain_data.proofs.Options.{OnErr-any}
 use Rattle.command_answers.specs.Simulating.{clocks_line}
 use Rattle.compaan_top.proofs.TextFronts.{both_written, front_of_both, front_of_first, quiet_throughout, rose_later}
 use Rattle.compaan_top.proofs.writing.write_clocked.Goals as goal
@@ -10,7 +10,7 @@ returns-in_err-write_answer g c =
     record {
       ok = search rules;
       quiet = search rules;
-      front = on_err c.from_residual.result
+      front = OnErr-any c.from_residual.result
           (front_of_first _ _ (answer_text c.args.answer.now.nest.arrays c.args.answer.now.clocked.arrays.arrays)
           (clocks_line c.args.answer.now.clocked.clocks) c.in_err-write_answer.ensures.front);
       cause = search rules;

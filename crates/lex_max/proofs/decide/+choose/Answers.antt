@@ -10,9 +10,10 @@ use Rattle.difference_graphs.specs.Asked.{depth_of_write}
 use Rattle.lex_max.specs.ChoiceSteps.{IsChoiceStep, IsFollowed, IsSmallForm}
 use Rattle.lex_max.specs.Choices.{choices_left, IsChoosing}
 use Rattle.difference_graphs.specs.Facts.{with_form}
+use Rattle.difference_graphs.proofs.Small.{negation_of-some}
 use Rattle.lex_max.proofs.LeastForm.{choices_behind}
 use Rattle.lex_max.proofs.DecisionContexts.{chosen_all, choosing_end, choosing_start, choosing_step, context_is}
-use Rattle.lex_max.proofs.DecisionContexts.{context_more, few_uppers, next_more, opposite_is, opposite_long, opposite_small}
+use Rattle.lex_max.proofs.DecisionContexts.{context_more, few_uppers, next_more, opposite_long, opposite_small}
 use Rattle.lex_max.proofs.DecisionContexts.{some_upper}
 use Rattle.lex_max.proofs.ChoiceForms.{chosen_small, next_small}
 use Rattle.lex_max.proofs.TestTrees.{answer_test}
@@ -292,7 +293,7 @@ follow-choose_with-requires t c =
     let row = c.opposite-row.result in
     let s = c.requires.step in
     let told = subst (IsChoiceStep context s.form s.choice) c.in-Either.is s.follows in
-    let row_is = opposite_is (2 ^ 34 + 2 ^ 40) above row (omega arith) told.within c.opposite-row.ensures in (
+    let row_is = negation_of-some (2 ^ 34 + 2 ^ 40) above row (omega arith) told.within c.opposite-row.ensures in (
       omega arith,
       (
         c.requires.ready,

@@ -3,14 +3,15 @@ use Rattle.std.proofs.lemmas.Option.{same_Some, IfSome_then}
 use Rattle.std.proofs.lemmas.Result.{IfOk-weaker}
 use Rattle.affine_core.specs.declared.form.Form.{Form}
 use Rattle.difference_graphs.specs.Facts.{form_parts, IsFact}
-use Rattle.lex_max.proofs.DecisionContexts.{opposite_is, opposite_long}
+use Rattle.difference_graphs.proofs.Small.{negation_of-some}
+use Rattle.lex_max.proofs.DecisionContexts.{opposite_long}
 use Rattle.lex_max.proofs.zeros.known_below.Goals as goal
 
 pub known-requires-clause-over : goal.known-requires-clause-over
 known-requires-clause-over c =
     let form = c.args.form.now in
     ap (λ (f : Form). length f.coefs)
-    (opposite_is (2 ^ 60) form c.opposite-row.result (omega arith) c.requires.small c.opposite-row.ensures)
+    (negation_of-some (2 ^ 60) form c.opposite-row.result (omega arith) c.requires.small c.opposite-row.ensures)
     ∙ opposite_long form ∙ c.requires.over
 
 pub returns : goal.returns

@@ -3,13 +3,14 @@ use Rattle.std.specs.List.{AllZip}
 use Rattle.std.proofs.Math.Seq.{take-suc}
 use Rattle.std.proofs.lemmas.List.{take_all}
 use Rattle.std.proofs.lemmas.Option.{get_or_from_slice_get, slice_get_within}
+use Rattle.plain_data.proofs.Lists.{AllZip-push}
 use Rattle.sanlp.proofs.NestFacts.{points_length}
 use Rattle.net_core.specs.Machine.{net_of}
 use Rattle.net_core.specs.Shape.{IsShaped}
 use Rattle.node_automata.specs.Automata.{automata}
 use Rattle.node_automata.proofs.Places.{automata_length}
 use Rattle.unit_text.specs.Units.{IsUnitOf}
-use Rattle.rtl_answers.proofs.Units.{few_values, pair_more}
+use Rattle.rtl_answers.proofs.Units.{few_values}
 use Rattle.rtl_answers.proofs.design.units_of.Goals as goal
 
 pub of-requires : goal.of-requires
@@ -31,7 +32,7 @@ loop-process-preserved c =
     ∙ ap (λ last. take p all ++ last ∷ []) item in
     subst (AllZip IsUnitOf (take (p + 1) all)) (sym c.in_ok-push.ensures.ok)
     (subst (λ autos. AllZip IsUnitOf autos (c.loop-process.units ++ unit ∷ [])) (sym next)
-    (pair_more IsUnitOf (take p all) c.loop-process.units auto unit c.loop-process.invariant c.in_ok-unit.ensures))
+    (AllZip-push IsUnitOf (take p all) c.loop-process.units auto unit c.loop-process.invariant c.in_ok-unit.ensures))
 
 pub returns : goal.returns
 returns c =

@@ -2,7 +2,9 @@ use Rattle.std.proofs.Common.{◌≡◌, ◌<◌, ◌-◌, drop, length, refl, a
 use Rattle.std.specs.Prelude.{replicate}
 use Rattle.std.proofs.lemmas.List.{get_or_read, length-map}
 use Rattle.std.proofs.lemmas.List.FromFn.{length-map-range_with_len}
+use Rattle.plain_data.proofs.Lists.{left-later}
 use Rattle.sanlp.specs.Trace.{trace}
+use Rattle.sanlp.proofs.ReadCounts.{trace-next_statement}
 use Rattle.loop_walk.specs.Walks.{rest}
 use Rattle.cell_rows.specs.CellMap.{places_in}
 use Rattle.cell_rows.specs.Narrow.{narrowed}
@@ -11,7 +13,7 @@ use Rattle.shadow_sweep.specs.LastWrites.{writes_in}
 use Rattle.source_tree.specs.Sources.{read_number}
 use Rattle.shadow_sweep.proofs.Accesses.{accesses_of, reads_are, reads_fit, write_fits, write_is}
 use Rattle.shadow_sweep.proofs.StretchPlaces.{none_known, one_more}
-use Rattle.shadow_sweep.proofs.SweepState.{IsSwept, first_is, left_later, reads_have_lists, statement_exists, swept_all}
+use Rattle.shadow_sweep.proofs.SweepState.{IsSwept, first_is, reads_have_lists, swept_all}
 use Rattle.shadow_sweep.proofs.SweepState.{swept_later, swept_none, turn_exists, turn_is_small, turns_all}
 use Rattle.shadow_sweep.proofs.sources.sweep_counted.Goals as goal
 
@@ -57,7 +59,7 @@ bounds-accesses-process c =
     omega (
       arith,
       ap length (c.as_slice-accesses.ensures ∙ c.in_ok-narrow.ensures) ∙ length-map n.statements narrowed,
-      statement_exists n
+      trace-next_statement n
           (rest n c.loop-point.walk) _ c.in-Some.point c.loop-point.invariant.left c.in-Some.ensures.next,
     )
 
@@ -69,7 +71,7 @@ index-first-requires c =
       c.in_ok-firsts.firsts.ok.0,
       ap length c.in_ok-firsts.ensures.firsts,
       length-map-range_with_len (λ p. read_number n p 0) 0 (length n.statements),
-      statement_exists n
+      trace-next_statement n
           (rest n c.loop-point.walk) _ c.in-Some.point c.loop-point.invariant.left c.in-Some.ensures.next,
     )
 
@@ -81,7 +83,7 @@ index_mut-stretch-requires c =
       c.loop-point.stretches.ok.0,
       c.loop-point.invariant.stretches.many,
       ap length (c.as_slice-accesses.ensures ∙ c.in_ok-narrow.ensures) ∙ length-map n.statements narrowed,
-      statement_exists n
+      trace-next_statement n
           (rest n c.loop-point.walk) _ c.in-Some.point c.loop-point.invariant.left c.in-Some.ensures.next,
     )
 
@@ -101,7 +103,7 @@ pass_along-requires-clause-known c =
     omega (
       arith,
       ap length (c.as_slice-accesses.ensures ∙ c.in_ok-narrow.ensures) ∙ length-map n.statements narrowed,
-      statement_exists n
+      trace-next_statement n
           (rest n c.loop-point.walk) _ c.in-Some.point c.loop-point.invariant.left c.in-Some.ensures.next,
     ) in
     c.loop-point.invariant.stretches.known c.in-Some.point.statement within c.index-accesses-process.result
@@ -135,7 +137,7 @@ pass_along-requires-clause-room c =
     c.as_slice-accesses.result.now c.index-accesses-process.result
     (c.as_slice-accesses.ensures ∙ c.in_ok-narrow.ensures) c.index-accesses-process.is in
     let exists =
-    statement_exists n
+    trace-next_statement n
     (rest n c.loop-point.walk) _ c.in-Some.point c.loop-point.invariant.left c.in-Some.ensures.next in
     let count =
     ap length c.in_ok-firsts.ensures.firsts
@@ -158,7 +160,7 @@ loop-point-preserved c =
     c.as_slice-accesses.result.now c.index-accesses-process.result
     (c.as_slice-accesses.ensures ∙ c.in_ok-narrow.ensures) c.index-accesses-process.is in
     let exists =
-    statement_exists n
+    trace-next_statement n
     (rest n c.loop-point.walk) _ c.in-Some.point c.loop-point.invariant.left c.in-Some.ensures.next in
     let count =
     ap length c.in_ok-firsts.ensures.firsts
@@ -168,7 +170,7 @@ loop-point-preserved c =
     omega (
       arith,
       ap length (c.as_slice-accesses.ensures ∙ c.in_ok-narrow.ensures) ∙ length-map n.statements narrowed,
-      statement_exists n
+      trace-next_statement n
           (rest n c.loop-point.walk) _ c.in-Some.point c.loop-point.invariant.left c.in-Some.ensures.next,
     ) in
     let same = c.as_slice-at.ensures.value in
@@ -180,7 +182,7 @@ loop-point-preserved c =
           c.in_ok-pass_along.ensures.places c.loop-point.invariant.stretches within c.index-accesses-process.is
           c.in_ok-pass_along.ensures.known refl;
       walk = c.in-Some.ensures.walk;
-      left = left_later (trace n)
+      left = left-later (trace n)
           (rest n c.loop-point.walk) _ c.in-Some.point c.loop-point.invariant.left c.in-Some.ensures.next;
       swept = swept_later n
           (rest n c.loop-point.walk) _ c.in-Some.point c.loop-point.invariant.left c.in-Some.ensures.next _ _ _

@@ -1,8 +1,9 @@
 use Rattle.std.proofs.Common.{◌≡◌, ◌-◌, ◌∙◌, drop, length, arith, sym, ap}
+use Rattle.plain_data.proofs.Lists.{left-later}
 use Rattle.sanlp.specs.Trace.{trace}
 use Rattle.loop_walk.specs.Walks.{rest}
 use Rattle.witness_plan.specs.Sequential.{capacities}
-use Rattle.witness_plan.proofs.TraceSteps.{left_later, process_exists, sequenced, sequenced_all}
+use Rattle.witness_plan.proofs.TraceSteps.{process_exists, sequenced, sequenced_all}
 use Rattle.witness_plan.proofs.TraceSteps.{sequenced_more}
 use Rattle.witness_plan.proofs.schedules.sequential.Goals as goal
 
@@ -30,7 +31,7 @@ loop-point-preserved c =
     let n = c.args.nest.now in
     record {
       walk = c.in-Some.ensures.walk;
-      left = left_later n
+      left = left-later (trace n)
           (rest n c.loop-point.walk) _ c.in-Some.point c.loop-point.invariant.left c.in-Some.ensures.next;
       schedule =
           sequenced_more n

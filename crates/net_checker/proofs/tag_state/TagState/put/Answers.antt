@@ -1,6 +1,5 @@
-use Rattle.std.proofs.Common.{[], ◌∷◌, ◌++◌, ◌-◌, ℕ, set, get_or, ap, ◌∙◌, arith}
+use Rattle.std.proofs.Common.{[], ◌∷◌, ◌++◌, ◌-◌, ℕ, set, get_or, ap, ◌∙◌, arith, sub-one}
 use Rattle.std.proofs.lemmas.List.{get_or_read}
-use Rattle.net_checker.proofs.TagSteps.{one_less}
 use Rattle.net_checker.proofs.tag_state.TagState.put.Goals as goal
 
 pub overflow_sub-turn : goal.overflow_sub-turn
@@ -18,4 +17,4 @@ returns-clause-queues c =
     c.in_ok-push_turn.ensures
     ∙ ap (λ (turn : ℕ).
     set self.queues.items c.args.channel (get_or self.queues.items c.args.channel [] ++ turn ∷ []))
-    (ap (λ (fires : ℕ). fires - 1) read ∙ one_less (get_or self.fires.items c.args.process 0))
+    (ap (λ (fires : ℕ). fires - 1) read ∙ sub-one (get_or self.fires.items c.args.process 0))

@@ -1,18 +1,19 @@
 use Rattle.std.proofs.Common.{◌++◌, ◌∷◌, [], ◌∙◌, ap}
 use Rattle.script_blocks.specs.Labels.{items_at}
-use Rattle.script_blocks.proofs.Labels.{at_err, label_added, label_below, same_items}
+use Rattle.plain_data.proofs.Options.{OnErr-any}
+use Rattle.script_blocks.proofs.Labels.{label_added, label_below, same_items}
 use Rattle.script_blocks.proofs.builder.ScriptBuilder.push_with_key.Goals as goal
 
 pub returns-in_err-kind-clause-err : goal.returns-in_err-kind-clause-err
 returns-in_err-kind-clause-err g c =
-    at_err c.from_residual.result
+    OnErr-any c.from_residual.result
     (same_items c.self.inside.kinds.items c.kind_of.new.kinds.items c.self.inside.labels.items c.kind_of.ensures.front
     c.self.invariant
     ∙ c.self.view_is)
 
 pub returns-in_err-push-clause-err : goal.returns-in_err-push-clause-err
 returns-in_err-push-clause-err g c =
-    at_err c.from_residual-in_err-push.result
+    OnErr-any c.from_residual-in_err-push.result
     (ap (items_at c.kind_of.new.kinds.items) c.in_err-push.ensures.items
     ∙ same_items c.self.inside.kinds.items c.kind_of.new.kinds.items c.self.inside.labels.items c.kind_of.ensures.front
     c.self.invariant

@@ -13,7 +13,6 @@ use Rattle.std.proofs.lemmas.Bool.{or_left, or_right}
 use Rattle.std.proofs.lemmas.List.Elements.{All-head, All-map, All-tail, All-weaker}
 use Rattle.std.proofs.lemmas.List.Sums.{count_by-le-length, sum_by-cons, sum_by_push}
 use Rattle.std.proofs.lemmas.List.FromFn.{length-range_with_len, length-map-range_with_len, take-map-range_with_len}
-use Rattle.sanlp.specs.Size.{size_limit}
 use Rattle.sanlp.proofs.Lists.{range_with_len_more}
 use Rattle.reorder_slots.specs.Slots.{NamesAllBelow, gets_for}
 use Rattle.channel_plan.specs.Tokens.{is_used, tokens_among, tokens_below, uses_of}
@@ -70,7 +69,7 @@ pub below_turn : (used : List ℕ) (turn : ℕ) → tokens_below used turn ≤ t
 below_turn used turn =
     omega (arith, count_by-le-length (is_used used) (range_with_len 0 turn), length-range_with_len 0 turn)
 
-pub few_uses : (turns : ℕ) (used : List ℕ) → turns ≤ size_limit → All (λ turn. turn < turns) used
+pub few_uses : (turns : ℕ) (used : List ℕ) → turns < 4294967296 → All (λ turn. turn < turns) used
     → All (λ named. named < 4294967295) (uses_of used)
 few_uses turns used few within =
     All-map (λ named. named < 4294967295) (tokens_below used) used

@@ -1,4 +1,8 @@
--- A proof by what its boxes hold: a part that is read out of its box is the part that the proof has.
+-- A proof by what its boxes hold.
+--
+-- A box is, for a contract, what it holds: a part that is read out of its box is the part that the proof has. So an
+-- equation that tells a proof stays true where a part of it is replaced by an equal one, and both lemmas only put
+-- equal parts in place. Nothing here is by induction: what stands below a part is kept as it is, whatever it refutes.
 use Rattle.std.proofs.Common.{◌≡◌, ◌∙◌, ℤ, List, sym, ap}
 use Rattle.affine_core.specs.declared.form.Form.{Form}
 use Rattle.int_polyhedra.specs.declared.system.Proof.{Proof}

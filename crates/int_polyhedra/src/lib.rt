@@ -12,5 +12,5 @@ mod system;
 
 pub use parts::{by_cut, by_split};
 pub use refute::{entails, refutes};
-pub use steps::negation;
+pub use steps::{divides, negation, quotients};
 pub use system::{Proof, Reason, System, Term};

@@ -6,7 +6,7 @@ ghost use Rattle.std.specs.Int.RustNames.{unsigned_abs};
 ghost use Rattle.affine_core.specs.Affine.{form_at};
 ghost use Rattle.int_polyhedra.specs.Chain.{rows_of};
 ghost use Rattle.int_polyhedra.specs.Systems.{AreOver};
-ghost use Rattle.int_polyhedra.specs.Steps.{bad_row_number, negative_multiplier, bad_divisor, sum_with, sum_onto, sum_of, is_contradictory, floor, not_divisible, divided_row, cut_row, negation_of, split_row};
+ghost use Rattle.int_polyhedra.specs.Steps.{bad_row_number, negative_multiplier, bad_divisor, sum_with, sum_onto, sum_of, is_contradictory, floor, not_divisible, divided_row, quotient_row, cut_row, negation_of, split_row};
 
 use crate::rows::{Rows, find, has_row};
 use crate::system::{Reason, Term};
@@ -105,7 +105,8 @@ fn all_zero(coefs: &[i128]) -> bool
     coefs.iter().all(|coef| *coef == 0)
 }
 
-fn divides(divisor: i128, value: i128) -> bool
+/// Whether the divisor divides the value.
+pub fn divides(divisor: i128, value: i128) -> bool
     requires { pos 1 ≤ℤ divisor }
     ensures { result ≡ (unsigned_abs value % unsigned_abs divisor == 0) }
 {
@@ -138,6 +139,19 @@ fn append_quotients(divisor: i128, coefs: &[i128], out: &mut Coefs)
     }
 }
 
+/// The row of the quotients by the divisor, each rounded down.
+pub fn quotients(row: &Row, divisor: i128) -> Row
+    requires { pos 1 ≤ℤ divisor }
+    ensures { result ≡ quotient_row (unsigned_abs divisor) row.now }
+{
+    let mut coefs = Coefs::empty(row.coefs.allocator());
+    append_quotients(divisor, row.coefs.as_slice(), &mut coefs);
+    Form {
+        constant: divide(row.constant, divisor),
+        coefs,
+    }
+}
+
 fn divide_row(divisor: i128, row: &Row) -> Result<Row, Reason>
     requires { pos 1 ≤ℤ divisor }
     ensures { result ≡ divided_row (unsigned_abs divisor) row.now }
@@ -145,12 +159,7 @@ fn divide_row(divisor: i128, row: &Row) -> Result<Row, Reason>
     if let Some(reason) = wrong_coef(divisor, row.coefs.as_slice()) {
         return Err(reason);
     }
-    let mut coefs = Coefs::empty(row.coefs.allocator());
-    append_quotients(divisor, row.coefs.as_slice(), &mut coefs);
-    Ok(Form {
-        constant: divide(row.constant, divisor),
-        coefs,
-    })
+    Ok(quotients(row, divisor))
 }
 
 /// The row that a Cut adds. It is not inlined, so that a level of a proof takes less stack.

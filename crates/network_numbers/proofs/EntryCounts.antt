@@ -1,4 +1,10 @@
 -- What is counted of a channel after one turn more.
+--
+-- Of each channel the walk keeps how many turns of the writer are wanted so far, which is a fold of `max` along the
+-- reader's sources. So the count up to one place and the source there give the count up to the next place
+-- (`wanted_more`); past the last source nothing is wanted, and the count stays (`after_more`). At a process that
+-- doesn't read the channel nothing is counted. The sources of some turns are cut out of the list between two places
+-- that never lie past its end (`part`), so the last may be fewer than were asked for. How long a run is isn't asked.
 use Rattle.std.proofs.Common.{◌≡◌, ◌+◌, ◌-◌, ◌==◌, ℕ, max, min, List, [], ◌∷◌, map, take, drop, get_or, length, refl, sym}
 use Rattle.std.proofs.Common.{ap, ap₂, ◌∙◌, inl, inr, arith, length-drop}
 use Rattle.std.specs.Prelude.{Option, None}

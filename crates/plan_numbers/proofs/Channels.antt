@@ -1,4 +1,10 @@
 -- The numbers of a channel are those of its plan, and a read's channels are those of the writers that have turns.
+--
+-- The token of a turn is told by how many used turns stand before it. A plan counts marks that are set, and here
+-- turns are tested, which is the same count (`tokens_told`), so each field is the plan's (`numbers_told`). Along the
+-- processes the invariant is that the channels so far are those of the writers below this process: a process of which
+-- some source is a turn adds its own channel (`numbers_more`), and any other adds none (`numbers_same`). A process
+-- that fires without being read is no writer here.
 use Rattle.std.proofs.Common.{◌≡◌, ◌+◌, ℕ, Bool, true, false, cond, List, [], ◌∷◌, ◌++◌, map, length, take, count_by}
 use Rattle.std.proofs.Common.{sym, ap, ◌∙◌, inl, inr, arith}
 use Rattle.std.specs.Prelude.{Option}

@@ -1,12 +1,15 @@
 -- The uses of a channel, from the turns that are used and how many tokens stand before each turn.
+--
+-- How many tokens stand before each turn is a table, and a use is what it has at the use's turn (`number_read`).
+-- Whether a token is used from some use on is asked of the turns (`is_wanted_alike`): by induction along the turns
+-- behind, since of two turns that are used the tokens are the same exactly where the turns are (`same_turn`). Of a
+-- turn that isn't used this would be wrong: it has the number of the next one that is used.
 use Rattle.std.proofs.Common.{◌≡◌, ◌<◌, ◌==◌, ◌||◌, ℕ, zero, suc, true, List, [], ◌∷◌, map, length, drop, get_or, refl}
 use Rattle.std.proofs.Common.{ap, ap₂, ◌∙◌, arith}
-use Rattle.std.specs.List.{All, list_any}
+use Rattle.std.specs.List.{list_any}
 use Rattle.std.proofs.lemmas.List.{get_or-map}
-use Rattle.std.proofs.lemmas.List.Elements.{All-map, All-weaker}
 use Rattle.std.proofs.lemmas.List.FromFn.{get_or-map-range_with_len}
 use Rattle.channel_plan.specs.Tokens.{is_used, tokens_below, uses_of}
-use Rattle.channel_plan.proofs.Uses.{below_turn}
 use Rattle.plan_numbers.proofs.Classes.{AreUsed, all_used, same_turn}
 use Rattle.plan_numbers.specs.Numbers.{IsNumbered}
 use Rattle.reorder_slots.specs.Slots.{is_wanted}
@@ -17,13 +20,6 @@ pub number_read : (used numbers : List ℕ) (turn : ℕ) → IsNumbered used num
 number_read used numbers turn e below =
     ap (λ xs. get_or xs turn 0) e
     ∙ get_or-map-range_with_len (tokens_below used) 0 (length numbers) turn turn 0 below (omega arith)
-
-pub small_uses : (used : List ℕ) (count : ℕ) → count < 4294967296 → All (λ turn. turn < count) used
-    → All (λ named. named < 4294967295) (uses_of used)
-small_uses used count few within =
-    All-map (λ named. named < 4294967295) (tokens_below used) used
-    (All-weaker (λ turn. turn < count) (λ turn. tokens_below used turn < 4294967295)
-    (λ turn below. omega (arith, below_turn used turn)) used within)
 
 -- a token is used from a place on exactly where its turn is
 wanted_alike : (used : List ℕ) (turn : ℕ) (turns : List ℕ) → is_used used turn ≡ true → AreUsed used turns

@@ -1,4 +1,9 @@
 -- A process has few points: it fires once at each, and its script has fewer than 2 ^ 32 events.
+--
+-- The automaton of a process has one value for each of its points, and the network's shape says that the process
+-- fires once at each. A fire is an event of the script, so the values are no more than the events, and a script whose
+-- network fits its numbers has fewer than 2 ^ 32. There is no induction: both counts are bounds that hold of each
+-- script. It isn't said that a unit's text is short, which depends on its expressions too.
 use Rattle.std.proofs.Common.{◌≡◌, ◌<◌, ◌^◌, ◌∙◌, ℕ, [], Some, length, slice_get, sym, ap, arith}
 use Rattle.std.specs.Prelude.{slice_index_or}
 use Rattle.std.proofs.lemmas.List.Sums.{count_by-le-length}

@@ -1,4 +1,9 @@
 -- The definitions at some words.
+--
+-- Examples that are computed: beside the words of a command line stands the order that `order_of` reads from them, or
+-- that there is none. The flag may stand twice and a policy may not, what stands behind `--` is no flag, and a
+-- command is no word of this program. They say nothing of other words, and no proof rests on them: they show that the
+-- definitions mean what the program's page says.
 use Rattle.std.proofs.Common.{◌≡◌, refl, codes, true, false, [], ◌∷◌, Some, None, pos}
 use Rattle.rtl_line.specs.declared.words.Policy.TheVariants as policy
 use Rattle.rtl_line.specs.Words.{order_of}

@@ -1,4 +1,14 @@
--- A line of which four pieces and its end were written one by one is the concatenation of the four with the end behind it.
+-- A line that is written in five pieces is the concatenation of the first four with its end behind it.
+--
+-- The code writes five texts, one behind the other; the definition joins four and has the end behind them. Joining
+-- may be grouped in any way, and nothing stands behind the fourth, so both are the same bytes (`line_end`), and what
+-- was written is the line. It is a law of these five texts, without induction, and says nothing of what a call that
+-- failed left.
+--
+-- The code writes five texts, one behind the other; the definition joins four and has the end behind them. Joining
+-- may be grouped in any way, and nothing stands behind the fourth, so both are the same bytes (`line_end`), and what
+-- was written is the line. It is a law of these five texts, without induction, and says nothing of what a call that
+-- failed left.
 use Rattle.std.proofs.Common.{◌≡◌, ℕ, List, [], ◌∷◌, ◌++◌, sym, subst, append_assoc, append-nil}
 use Rattle.std.specs.List.{concat}
 use Rattle.text_out.specs.Wrote.{Given, Wrote}

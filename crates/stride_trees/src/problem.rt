@@ -1,7 +1,6 @@
-ghost use Rattle.std.specs.Prelude.{◌≡◌, ◌≤◌, ◌<◌, ◌+◌, ◌^◌, ◌++◌, ◌≤ℤ◌, ◌||◌, pos, ℕ, List, unsigned_abs, length, map, All, IfOk, IsTrue, OnOk};
+ghost use Rattle.std.specs.Prelude.{◌≡◌, ◌≤◌, ◌<◌, ◌+◌, ◌^◌, ◌++◌, ◌||◌, ℕ, List, length, All, IfOk, IsTrue, OnOk};
 ghost use Rattle.std.specs.List.{count_by};
 ghost use Rattle.affine_core.specs.Affine.{variable_form};
-ghost use Rattle.int_polyhedra.specs.Steps.{floor, quotient_row};
 ghost use Rattle.difference_graphs.specs.Asked.{read_of as asked_read, write_of as asked_write, IsAsked};
 ghost use Rattle.row_sums.specs.Parts.{IsWithin};
 ghost use Rattle.stride_rows.specs.Class.{is_stride};
@@ -11,41 +10,12 @@ ghost use Rattle.stride_trees.specs.Strides.{depth_of_read, read_of, write_of, A
 
 use crate::divisions::moved;
 use crate::strides::Strides;
-use affine_core::{Coefs, Form, Row};
+use affine_core::{Form, Row};
 use difference_graphs::{Writes, negative};
+use int_polyhedra::quotients;
 use plain_data::Items;
 use std::alloc::{AllocError, Global};
 use stride_rows::{falls, next_quotient, places_behind, size, small_stride, stride_of};
-
-fn divide(value: i128, divisor: i128) -> i128
-    requires { pos 1 ≤ℤ divisor }
-    ensures { result ≡ floor value (unsigned_abs divisor) }
-{
-    value.div_euclid(divisor)
-}
-
-fn append_quotients(divisor: i128, coefs: &[i128], out: &mut Coefs)
-    requires divisor { pos 1 ≤ℤ divisor }
-    requires room { length out.old + length coefs.now ≤ 18 }
-    ensures { out.new ≡ out.old ++ map (λ c. floor c (unsigned_abs divisor)) coefs.now }
-{
-    for coef in coefs {
-        out.push(divide(*coef, divisor));
-    }
-}
-
-// The row of the quotients, the constant rounded down.
-fn quotients(row: &Row, divisor: i128) -> Row
-    requires { pos 1 ≤ℤ divisor }
-    ensures { result ≡ quotient_row (unsigned_abs divisor) row.now }
-{
-    let mut coefs = Coefs::empty(row.coefs.allocator());
-    append_quotients(divisor, row.coefs.as_slice(), &mut coefs);
-    Form {
-        constant: divide(row.constant, divisor),
-        coefs,
-    }
-}
 
 // A domain row, divided by the size of its coefficient outside -1 to 1, if it has one.
 fn divided_row(row: &Row) -> Row

@@ -1,4 +1,10 @@
 -- Facts one after the other.
+--
+-- The invariant is `AreFacts`: each fact is the row that its Cut adds to the context's rows, over the context's
+-- variables, its numbers within 2 ^ 41, and the context with all of them has at most 64 rows. Each Cut names rows of
+-- the context alone, so a fact more leaves those before as they are (`fact_more`). The sum of a Cut's terms is taken
+-- from its last term to its first: what the later ones come to, onto what the first one makes, is what all come to
+-- (`one_onto`). That a fact isn't there twice, or that it is of use to a proof, isn't asked.
 use Rattle.std.proofs.Common.{◌≡◌, ◌==◌, ◌<◌, ◌≤◌, ◌+◌, ◌%◌, ◌^◌, ◌≤ℤ◌, ℕ, ℤ, pos, List, [], ◌∷◌, ◌++◌, length, true, refl}
 use Rattle.std.proofs.Common.{sym, ap, ◌∙◌, subst, arith, length-append}
 use Rattle.std.specs.Prelude.{Some, All, slice_get, unsigned_abs}

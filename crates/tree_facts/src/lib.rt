@@ -6,7 +6,6 @@ mod behind;
 mod context;
 mod cuts;
 mod law;
-mod quotients;
 mod search;
 mod sums;
 

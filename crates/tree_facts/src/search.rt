@@ -1,12 +1,12 @@
-ghost use Rattle.std.specs.Prelude.{◌≡◌, ◌≤◌, ◌^◌, length, unsigned_abs, All, IfOk, IfSome, IsTrue, OnOk};
+ghost use Rattle.std.specs.Prelude.{◌≡◌, ◌≤◌, ◌≤ℤ◌, ◌^◌, ◌%◌, ◌==◌, pos, length, unsigned_abs, All, IfOk, IfSome, IsTrue, OnOk};
+ghost use Rattle.std.specs.List.{list_all};
 ghost use Rattle.row_sums.specs.Parts.{IsWithin};
 ghost use Rattle.tree_facts.specs.Facts.{AreFacts, IsFactOf};
 
-use crate::quotients::{divides_all, quotients};
 use crate::sums::sum_onto;
 use affine_core::{Form, Row};
 use difference_graphs::once;
-use int_polyhedra::{System, Term};
+use int_polyhedra::{System, Term, divides, quotients};
 use plain_data::Items;
 use std::alloc::{AllocError, Global};
 use stride_rows::Cut;
@@ -206,6 +206,14 @@ fn is_small_row(row: &Row, vars: u32) -> bool
 fn is_told(rows: &[Row], row: &Row) -> bool {
     rows.iter().any(|other| other.constant <= row.constant
         && other.coefs.as_slice() == row.coefs.as_slice())
+}
+
+fn divides_all(divisor: i128, coefs: &[i128]) -> bool
+    requires { pos 1 ≤ℤ divisor }
+    ensures { result ≡ list_all
+        (λ c. unsigned_abs c % unsigned_abs divisor == 0) coefs.now }
+{
+    coefs.iter().all(|coef| divides(divisor, *coef))
 }
 
 // The Cut and the row that it adds, where that can be made and is a difference with small numbers.

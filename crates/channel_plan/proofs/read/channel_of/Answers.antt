@@ -44,7 +44,7 @@ slots_of-requires-clause-small c =
     let uses = uses_found c.args.turns used c.in_ok-used.used.items c.in_ok-uses.uses.items c.deref-3.result.now
     c.in_ok-used.ensures marks c.in_ok-uses.ensures c.requires.within in
     All-same (λ named. named < 4294967295) c.deref-5.result.now (uses_of used) (c.deref-5.ensures.value ∙ uses)
-    (few_uses c.args.turns used c.requires.few c.requires.within)
+    (few_uses c.args.turns used (omega (arith, c.requires.few)) c.requires.within)
 
 pub slots_of-requires-clause-class : goal.slots_of-requires-clause-class
 slots_of-requires-clause-class c =

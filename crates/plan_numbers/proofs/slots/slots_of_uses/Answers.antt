@@ -6,7 +6,7 @@
 use Rattle.std.proofs.Common.{◌≡◌, ◌+◌, ◌<◌, eqb, not, length, get_or, sym, ap, ◌∙◌, arith}
 use Rattle.std.proofs.lemmas.List.{get_or-map, get_or_read, length-map}
 use Rattle.channel_plan.specs.Tokens.{tokens_below, uses_of}
-use Rattle.channel_plan.proofs.Uses.{below_turn, names_all_below}
+use Rattle.channel_plan.proofs.Uses.{below_turn, names_all_below, few_uses}
 use Rattle.reorder_slots.specs.Slots.{Held, held_after, is_wanted}
 use Rattle.reorder_slots.proofs.Gets.{held-zero}
 use Rattle.reorder_slots.proofs.LastUses.{is_last_use}
@@ -14,7 +14,7 @@ use Rattle.reorder_slots.proofs.Plans.{gets_small}
 use Rattle.reorder_slots.proofs.Uses.{gets_for-more}
 use Rattle.plan_numbers.specs.declared.slots.SlotCounts.{SlotCounts}
 use Rattle.plan_numbers.proofs.FreeSlots.{few_free, free_in, last_counted, use_counted, use_got}
-use Rattle.plan_numbers.proofs.Uses.{is_wanted_alike, number_read, small_uses}
+use Rattle.plan_numbers.proofs.Uses.{is_wanted_alike, number_read}
 use Rattle.plan_numbers.proofs.slots.slots_of_uses.Goals as goal
 
 pub loop-number-init : goal.loop-number-init
@@ -57,7 +57,7 @@ note_use-requires c =
       c.loop-number.invariant.few,
       c.loop-number.invariant.gets,
       few_free uses q (held_after uses q).slots,
-      gets_small uses q (small_uses used (length c.args.tokens_before.now) c.requires.few c.requires.within),
+      gets_small uses q (few_uses (length c.args.tokens_before.now) used c.requires.few c.requires.within),
     )
 
 pub loop-number-preserved : goal.loop-number-preserved
@@ -133,7 +133,7 @@ overflow_cast-result c =
       c.loop-number.invariant.few,
       c.loop-number.invariant.gets,
       gets_small (uses_of used) c.loop-number.number
-          (small_uses used (length c.args.tokens_before.now) c.requires.few c.requires.within),
+          (few_uses (length c.args.tokens_before.now) used c.requires.few c.requires.within),
     )
 
 pub returns : goal.returns

@@ -55,7 +55,7 @@ wide_part more (g ∷ rows) back zero f part is =
 wide_part more (g ∷ rows) back (suc k) f part is = wide_part more rows back k f part is
 
 -- a number below a sum
-split_number : (k m n : ℕ) → k < m + n → (k < m) ⊎ ((j : ℕ) × (k ≡ m + j) × (j < n))
+pub split_number : (k m n : ℕ) → k < m + n → (k < m) ⊎ ((j : ℕ) × (k ≡ m + j) × (j < n))
 split_number k m n lt = elim (cases_order k m) [
   | inl same ↦ inr (0, omega (arith, same), omega (arith, lt, same))
   | inr other ↦ elim other [

@@ -4,7 +4,7 @@
 -- since their numbers are small: a row on the point is an edge between nodes, of which each is one variable or none,
 -- and an order row is the difference of two small forms. So what a candidate's own proof shows in its own system is
 -- carried to this one.
-use Rattle.std.proofs.Common.{◌≡◌, ◌+◌, ◌^◌, ◌≤◌, ◌<◌, ◌==◌, ℕ, zero, suc, ℤ, pos, negsuc, ◌+ℤ◌, ◌-ℤ◌, ◌⊎◌}
+use Rattle.std.proofs.Common.{◌≡◌, ◌+◌, ◌^◌, ◌≤◌, ◌<◌, ◌==◌, ℕ, zero, suc, ℤ, pos, negsuc, ◌+ℤ◌, ◌-ℤ◌}
 use Rattle.std.proofs.Common.{inl, inr, List, [], ◌∷◌, ◌++◌, length, map, Bool, true, false, slice_index_or, refl, sym}
 use Rattle.std.proofs.Common.{ap, ◌∙◌, subst, arith}
 use Rattle.std.specs.Prelude.{Option, Some, None, All, slice_get, unsigned_abs}
@@ -28,7 +28,7 @@ use Rattle.candidate_order.specs.Contexts.{IsPathContext}
 use Rattle.candidate_order.specs.Positions.{own_sums, IsNode}
 use Rattle.candidate_order.specs.declared.candidates.Candidate.{Candidate}
 use Rattle.candidate_order.specs.declared.candidates.Read.{Read}
-use Rattle.candidate_order.proofs.CarriedProofs.{carried_refuted, AreSystems, StandsIn}
+use Rattle.candidate_order.proofs.CarriedProofs.{carried_refuted, AreSystems, StandsIn, split_number}
 use Rattle.difference_graphs.specs.Asked.{read_of, write_of, IsProblem}
 use Rattle.difference_graphs.specs.Edges.{edge_parts, write_rows, AreLevelRows, IsEdge}
 use Rattle.difference_graphs.specs.Facts.{form_parts, IsFact}
@@ -412,15 +412,6 @@ module _ (r : Read) (context : System) (room : ℕ) (path : IsPathContext r.cont
 
   last_part : (xs ys : List Form) (j : ℕ) (part : Part) → row_part (xs ++ ys) part (length xs + j) ≡ row_part ys part j
   last_part xs ys j part = ap (λ o. option_map_or (part_of part) o (pos 0)) (slice_get-append_right xs ys j)
-
-  split_number : (k m n : ℕ) → k < m + n → (k < m) ⊎ ((j : ℕ) × (k ≡ m + j) × (j < n))
-  split_number zero zero n lt = inr (0, refl, omega (arith, lt))
-  split_number zero (suc m) n lt = inl (omega arith)
-  split_number (suc k) zero n lt = inr (suc k, omega arith, omega (arith, lt))
-  split_number (suc k) (suc m) n lt = elim (split_number k m n (omega (arith, lt))) [
-    | inl below ↦ inl (omega (arith, below))
-    | inr rest ↦ inr (rest.0, omega (arith, rest.1), rest.2)
-  ]
 
   module _ (node : Tree) (sums : List (List Term)) (o : IsNodeOver context cand node sums c.vars)
       (own_extra order : List RowExpr) (own : AreMadeRows more_vars own_extra) (all : AreMadeRows more_vars order)

@@ -1,5 +1,5 @@
 -- Lines that are made of words.
-use Rattle.std.proofs.Common.{◌≡◌, ℕ, suc, ◌<◌, ◌^◌, ◌==◌, ◌||◌, ℤ, pos, negsuc, Bool, true, false, not, nat_lt, List}
+use Rattle.std.proofs.Common.{◌≡◌, ℕ, suc, ◌<◌, ◌^◌, ◌==◌, ◌||◌, ℤ, pos, negsuc, Bool, true, false, not, List}
 use Rattle.std.proofs.Common.{[], ◌∷◌, decimal, refl, ap, ◌∙◌, arith}
 use Rattle.std.specs.Char.{is_ascii_digit}
 use Rattle.std.specs.List.{join_with_byte, list_all}
@@ -12,7 +12,7 @@ use Rattle.std.proofs.lemmas.List.Sums.{AllPass-from_list_all, list_all-from_All
 use Rattle.affine_core.specs.Within.{fits_128_bits}
 use Rattle.cert_lines.specs.Words.{IsInRange, words_of}
 use Rattle.cert_lines.proofs.Cuts.{Lacks}
-use Rattle.cert_lines.proofs.Numerals.{digits_wide}
+use Rattle.cert_lines.proofs.Numerals.{digits_wide, below_half}
 
 -- no space and no line feed stands in it
 abbrev pub is_word : List ℕ → Bool
@@ -44,9 +44,6 @@ decimal_is_word n small =
 
 pub word_of_number : (n : ℕ) → IsInRange n → is_word (decimal n) ≡ true
 word_of_number n few = let small : n < 10 ^ 64 = omega arith in decimal_is_word n small
-
-below_half : (n : ℕ) → nat_lt n (2 ^ 127) ≡ true → n < 2 ^ 127
-below_half n test = grind (arith, nat_tests)
 
 pub word_of_integer : (z : ℤ) → fits_128_bits z ≡ true → is_word (signed_decimal z) ≡ true
 word_of_integer (pos n) fits = let half = below_half n fits in let small : n < 10 ^ 64 = omega arith

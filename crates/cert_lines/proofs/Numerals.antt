@@ -143,7 +143,7 @@ decimal_of_number word n e = elim (cases_Bool (is_numeral word)) [
 
 -- Numbers within 128 signed bits
 
-below_half : (n : ℕ) → nat_lt n (2 ^ 127) ≡ true → n < 2 ^ 127
+pub below_half : (n : ℕ) → nat_lt n (2 ^ 127) ≡ true → n < 2 ^ 127
 below_half n test = grind (arith, nat_tests)
 
 -- no number above 0 is spelled `0`

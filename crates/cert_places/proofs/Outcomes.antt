@@ -111,7 +111,7 @@ pub record IsSaid {A : Type 0} (judge : List (List ℕ) → Result A Fault) (tex
   pub whole : IsLine text
   pub said : judge (words_of text) ≡ Ok x
 
-words_of_joined : (words : List (List ℕ)) → 0 < length words → list_all is_word words ≡ true
+pub words_of_joined : (words : List (List ℕ)) → 0 < length words → list_all is_word words ≡ true
     → words_of (join_with_byte 32 words) ≡ words
 words_of_joined [] some are = absurd (omega (arith, some))
 words_of_joined (word ∷ words) some are = words_joined word words are

@@ -21,7 +21,7 @@ use Rattle.cert_lines.specs.declared.error.Fault.{Fault}
 use Rattle.cert_lines.specs.declared.error.Fault.TheVariants.{Words, Range}
 use Rattle.cert_lines.specs.Words.{both, integer, is_negative, is_numeral, just, made, number, words_of}
 use Rattle.cert_lines.proofs.Cuts.{lacks_head, lacks_tail}
-use Rattle.cert_lines.proofs.LineWords.{is_word, line_lacks, words_joined}
+use Rattle.cert_lines.proofs.LineWords.{is_word, line_lacks}
 use Rattle.tree_text.specs.Lines.{coefficients, cut_words, dead_words, divides_words, form, integers, map_line}
 use Rattle.tree_text.specs.Lines.{proof_line, term, terms, tree_line, writer_words, zero_words}
 use Rattle.cert_text.specs.Places.{channel_line, entry_line, event_line, fire_words, get_words, part_line, process_line}
@@ -31,6 +31,7 @@ use Rattle.cert_text.proofs.WordVerdicts.{word_of_class}
 use Rattle.cert_places.specs.Fronts.{IsLine}
 use Rattle.cert_places.specs.Places.{in_pattern, is_number, pattern, patterns}
 use Rattle.cert_places.proofs.LineTypes.{IsVersion, Version, second_version}
+use Rattle.cert_places.proofs.Outcomes.{words_of_joined}
 
 -- what was judged of words, and what of their pattern
 abbrev pub Milder : {A : Type 0} → Result A Fault → Result A Fault → Type 0
@@ -519,11 +520,6 @@ line_words (byte ∷ text) whole =
           ∙ onto_word byte (words_of text) other (lacks_head 10 byte text whole) more
     ]
 
-joined_again : (words : List (List ℕ)) → 0 < length words → list_all is_word words ≡ true
-    → words_of (join_with_byte 32 words) ≡ words
-joined_again [] some are = absurd (omega (arith, some))
-joined_again (word ∷ words) some are = words_joined word words are
-
 -- numbers out of range can be others
 pub mends : {A : Type 0} (judge : List (List ℕ) → Result A Fault) → Milds judge → (text : List ℕ) → IsLine text
     → judge (words_of text) ≡ Err Range → Mended judge text
@@ -531,7 +527,7 @@ mends {A} judge milds text whole e =
     let are = words_in_pattern (words_of text) (line_words text whole) in
     let some : 0 < length (patterns (words_of text)) =
     omega (arith, length-map (words_of text) in_pattern, length-slice_split (λ b. b == 32) text) in
-    let again = joined_again (patterns (words_of text)) some are in
+    let again = words_of_joined (patterns (words_of text)) some are in
     let k = subst (λ (r : Result A Fault). Milder r (judge (patterns (words_of text)))) e (milds (words_of text)) in
     record {
       other = join_with_byte 32 (patterns (words_of text));

@@ -3,7 +3,7 @@
 -- As for trees, the depth of a repeat and the levels that are left add up to 513, and the kind lets repeats nest two
 -- levels deeper: a repeat that is too deep can still be followed by items. Version 1 has no line of a repeat, so there
 -- each part is an item.
-use Rattle.std.proofs.Common.{◌≡◌, inl, inr, ℕ, zero, suc, ◌+◌, ◌≤◌, List, [], ◌∷◌, ◌++◌, All, Result, Ok, Err}
+use Rattle.std.proofs.Common.{◌≡◌, inl, inr, ℕ, zero, suc, ◌+◌, ◌≤◌, List, [], ◌∷◌, ◌++◌, All, Result, Ok}
 use Rattle.std.proofs.Common.{codes, decimal, length, map, append-nil, refl, sym, ap, subst, ◌∙◌, arith}
 use Rattle.std.specs.List.{flat_map, join_with_byte}
 use Rattle.std.proofs.lemmas.List.Folds.{flat_map-map}
@@ -17,7 +17,7 @@ use Rattle.script_blocks.specs.declared.blocks.BlockPart.TheViews.{Repeat, rolls
 use Rattle.script_blocks.specs.declared.blocks.BlockPart.TheVariants.{Item}
 use Rattle.text_out.specs.Words.{line_text}
 use Rattle.cert_lines.specs.declared.error.Fault.{Fault}
-use Rattle.cert_lines.specs.Words.{IsInRange, both, made, number, words_of}
+use Rattle.cert_lines.specs.Words.{both, made, number, words_of}
 use Rattle.cert_lines.specs.Reading.{Part, Place, many}
 use Rattle.cert_lines.proofs.Verdicts.{at_keyword, both_ok, made_ok, same_words}
 use Rattle.cert_text.specs.CertText.{part_text, parts_text, repeat_text}
@@ -34,11 +34,6 @@ use Rattle.cert_places.proofs.LineTypes.{second_version}
 use Rattle.cert_places.proofs.Patterns.{Milds, mends, milds_part}
 use Rattle.cert_places.proofs.Reached.{After, HasSome, Kind, LineTaken, ManyOf, Nil, Of, Via, after_deep, after_within}
 use Rattle.cert_places.proofs.Reached.{some_many, some_nil, some_of, spelled_line, via_line, via_made, via_many, via_value}
-
-    judged : (said : Result ℕ Fault) → number word ≡ said → at_least least said ≡ Ok n → (word ≡ decimal n)
-        × (IsInRange n × (least ≤ n))
-    judged (Ok m) is e = tested m is e
-    judged (Err fault) is e = absurd (cc e)
 
 -- Depths
 

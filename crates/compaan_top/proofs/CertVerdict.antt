@@ -33,7 +33,7 @@ use Rattle.swept_net.specs.Certificates.{IsCertificate}
 use Rattle.sanlp.specs.declared.nest.Nest.{Nest}
 use Rattle.source_tree.specs.declared.cert.Cert.{Cert}
 use Rattle.std.specs.Prelude.{Contains, IfOk}
-use Rattle.std.proofs.lemmas.Option.{same_Some}
+use Rattle.std.proofs.lemmas.Option.{same_Some, none-some}
 use Rattle.witness_plan.specs.declared.schedules.Policy.{Policy}
 use Rattle.witness_plan.specs.Schedules.{planned_network}
 use Rattle.compaan_top.specs.Certified.{Accepts, AgreeOn, Call, Certifies, HasCertificate, ReadCertificate, StandsForPlanned, WroteCertificate}
@@ -288,13 +288,10 @@ fitting stands tokens_stay sentence_stays params policy bundle other text w has 
 done_is_answered : (status : Status) → status ≡ Done → IsAnswered status
 done_is_answered status done = (λ input. cc, λ output. cc, λ memory. cc)
 
-no_text : (text : List ℕ) → ◌≡◌ {A = Option (List ℕ)} None (Some text) → ⊥
-no_text text is = cc
-
 -- what a sink gained is what was written on it
 appended : (old new : Option (List ℕ)) (held text gained : List ℕ) → Appends old new gained → old ≡ Some held
     → new ≡ Some (held ++ text) → gained ≡ text
-appended None new held text gained grown before after = absurd (no_text held before)
+appended None new held text gained grown before after = absurd (none-some held before)
 appended (Some x) None held text gained grown before after = absurd grown
 appended (Some x) (Some y) held text gained grown before after =
     append_cancel_left x gained text

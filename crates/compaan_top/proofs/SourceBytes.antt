@@ -10,7 +10,7 @@ use Rattle.std.proofs.Common.{◌≡◌, ◌∙◌, ◌⊎◌, ◌≤◌, ◌<�
 use Rattle.std.specs.Io.KnownBytes.{Appends, Consumes, IsAtEnd}
 use Rattle.std.specs.Prelude.{◌↔◌}
 use Rattle.std.proofs.lemmas.Bool.{cases_lt}
-use Rattle.std.proofs.lemmas.Option.{same_Some}
+use Rattle.std.proofs.lemmas.Option.{same_Some, none-some}
 use Rattle.command_answers.specs.declared.status.Status.{Status}
 use Rattle.command_answers.specs.declared.status.Status.TheVariants.{Done, WordsRefused}
 use Rattle.command_line.specs.declared.words.Command.{Command}
@@ -28,13 +28,10 @@ use Rattle.compaan_top.specs.Outcome.{IsOutcome, words_refused, bundle_refused, 
 use Rattle.compaan_top.specs.Told.{ComesTo, IsAnswered, IsTold}
 use Rattle.compaan_top.proofs.Acceptance.{IsUndone, VouchesFor, WhatFitsIsSound, outcome_vouched, too_long, with_sound}
 
-no_bytes : (all : List ℕ) → ◌≡◌ {A = Option (List ℕ)} None (Some all) → ⊥
-no_bytes all is = cc
-
 -- what was read to the end is all
 all_read : (old new : Option (List ℕ)) (read all : List ℕ) → Consumes old new read → IsAtEnd new → old ≡ Some all
     → read ≡ all
-all_read None new read all taken end is = absurd (no_bytes all is)
+all_read None new read all taken end is = absurd (none-some all is)
 all_read (Some x) None read all taken end is = absurd taken
 all_read (Some x) (Some y) read all taken end is =
     sym (append-nil read) ∙ ap (λ l. read ++ l) (sym end) ∙ sym taken ∙ same_Some x all is
@@ -42,7 +39,7 @@ all_read (Some x) (Some y) read all taken end is =
 -- what was read is no longer than all
 no_more_read : (old new : Option (List ℕ)) (read all : List ℕ) → Consumes old new read → old ≡ Some all
     → length read ≤ length all
-no_more_read None new read all taken is = absurd (no_bytes all is)
+no_more_read None new read all taken is = absurd (none-some all is)
 no_more_read (Some x) None read all taken is = absurd taken
 no_more_read (Some x) (Some y) read all taken is =
     omega (

@@ -33,7 +33,7 @@ pub floor_above : (z : ℤ) (d : ℕ) → 0 < d → z <ℤ ((floor z d +ℤ pos 
 floor_above (pos n) d h = omega (arith, ints, sum_times (pos (n / d)) (pos 1) (pos d))
 floor_above (negsuc n) d h = omega (arith, ints, sum_times (negsuc (n / d)) (pos 1) (pos d))
 
-divides_where : (m : ℕ) → not (m == 0) ≡ false → m ≡ 0
+pub divides_where : (m : ℕ) → not (m == 0) ≡ false → m ≡ 0
 divides_where m e = grind arith
 
 dot_quotients : (d : ℕ) (cs at : List ℤ) → 0 < d → find (λ c. not (unsigned_abs c % d == 0)) cs ≡ None

@@ -29,6 +29,7 @@ use Rattle.int_polyhedra.proofs.ListSearch.{mapped_none, find_none}
 use Rattle.int_polyhedra.proofs.SumInvariants.{option_or_none, row_unless_ok, row_and_then_ok, refusal_or_none, ok_or_ok}
 use Rattle.int_polyhedra.proofs.Variables.{split_is}
 use Rattle.int_polyhedra.proofs.Cases.{refusal_sum, refusal_cut, refusal_split}
+use Rattle.int_polyhedra.proofs.Floor.{divides_where}
 
 -- what was sought and not found holds of none
 pub All-find_none : {X : Type 0} (p : X → Bool) (P : X → Type 0) → ((x : X) → p x ≡ false → P x) → (xs : List X)
@@ -50,14 +51,8 @@ where_below m n h = grind arith
 where_not_negative : (z : ℤ) → pos 0 ≤ℤ z → int_lt z (pos 0) ≡ false
 where_not_negative z h = grind (arith, ints)
 
-divided_where : (m : ℕ) → not (m == 0) ≡ false → m ≡ 0
-divided_where m e = grind arith
-
 where_divided : (m : ℕ) → m ≡ 0 → not (m == 0) ≡ false
 where_divided m e = grind arith
-
-positive_where : (z : ℤ) → int_lt z (pos 1) ≡ false → pos 1 ≤ℤ z
-positive_where z e = grind (arith, ints)
 
 where_positive : (z : ℤ) → pos 1 ≤ℤ z → int_lt z (pos 1) ≡ false
 where_positive z h = grind (arith, ints)
@@ -134,7 +129,7 @@ divisor_follows : (d : ℤ) → bad_divisor d ≡ None → pos 1 ≤ℤ d
 divisor_follows d e = go (int_lt d (pos 1)) refl e where
   go : (b : Bool) → int_lt d (pos 1) ≡ b → cond b (Some (Negative d)) None ≡ None → pos 1 ≤ℤ d
   go true is e = absurd (let k : Some (Negative d) ≡ None = e in cc)
-  go false is e = positive_where d is
+  go false is e = int_lt-false d (pos 1) is
 
 Divides : ℕ → List ℤ → Type 0
 Divides d cs = All (λ c. unsigned_abs c % d ≡ 0) cs
@@ -144,7 +139,7 @@ divided_follows : (d : ℕ) (sum row : Form) → divided_row d sum ≡ Ok row
 unfolding Divides
 divided_follows d sum row e =
     let u = row_unless_ok (not_divisible d sum.coefs) (Ok (quotient_row d sum)) row e in (
-      All-find_none (λ c. not (unsigned_abs c % d == 0)) _ (λ c. divided_where (unsigned_abs c % d)) sum.coefs
+      All-find_none (λ c. not (unsigned_abs c % d == 0)) _ (λ c. divides_where (unsigned_abs c % d)) sum.coefs
           (mapped_none _ _ u.0),
       (let k : Ok (quotient_row d sum) ≡ Ok row = u.1 in cc),
     )

@@ -36,9 +36,6 @@ use Rattle.int_polyhedra.proofs.Variables.{split_over, over_more}
 use Rattle.int_polyhedra.proofs.ListSearch.{mapped_none, find_none}
 use Rattle.int_polyhedra.proofs.Floor.{floor_above, dot_floors}
 
-from_one : (d : ℤ) → int_lt d (pos 1) ≡ false → pos 1 ≤ℤ d
-from_one d e = grind (arith, ints)
-
 dot_none : (cs at : List ℤ) → list_all (λ c. int_eq c (pos 0)) cs ≡ true → dot cs at ≡ pos 0
 dot_none [] at e = refl
 dot_none (c ∷ cs) at e = go (dot_none cs) (int_eq c (pos 0)) refl at e where
@@ -142,7 +139,7 @@ module _ (at : List ℤ) where
   divisor_above d e = go (int_lt d (pos 1)) refl e where
     go : (b : Bool) → int_lt d (pos 1) ≡ b → cond b (Some (Negative d)) None ≡ None → 0 < unsigned_abs d
     go true is e = absurd (let f : Some (Negative d) ≡ None = e in cc)
-    go false is e = unsigned_abs-positive d (from_one d is)
+    go false is e = unsigned_abs-positive d (int_lt-false d (pos 1) is)
 
   cut_met : (rows : List Form) (d : ℤ) (terms : List Term) (f : Form) → Each IsMet rows
       → cut_row (length at) rows d terms ≡ Ok f → IsMet f

@@ -74,7 +74,7 @@ get_behind_two (x ∷ (y ∷ [])) more k e =
     let n : 2 + k ≡ suc (suc k) = omega arith in ap (slice_get (x ∷ y ∷ more)) n
 get_behind_two (x ∷ (y ∷ (z ∷ rows))) more k e = absurd (omega arith)
 
-two_rows : (q : ℕ) (d : Division) (answer : Bool) → length (answer_rows q d answer) ≡ 2
+pub two_rows : (q : ℕ) (d : Division) (answer : Bool) → length (answer_rows q d answer) ≡ 2
 two_rows q d true = refl
 two_rows q d false = refl
 

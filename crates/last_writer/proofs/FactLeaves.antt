@@ -23,7 +23,7 @@ use Rattle.last_writer.specs.Leaves.{IsOwnPoint}
 use Rattle.last_writer.specs.Writers.{IsWriterOf}
 use Rattle.last_writer.specs.declared.leaves.Answered.{Answered}
 use Rattle.last_writer.specs.declared.writers.Writer.{Writer}
-use Rattle.last_writer.proofs.Below.{all_rows, answer_rows, rows_are, vars_are}
+use Rattle.last_writer.proofs.Below.{all_rows, answer_rows, rows_are, vars_are, two_rows}
 use Rattle.last_writer.proofs.RowCounts.{all_counted, few_point, place_counted, zero_counted, IsFew}
 use Rattle.sanlp.specs.declared.nest.Nest.{Nest}
 use Rattle.sanlp.specs.declared.nest.Statement.{Statement}
@@ -202,10 +202,6 @@ rows_without w here rest h below =
       length-append c.rows rest,
       facts_counted w h,
     )
-
-two_rows : (q : ℕ) (d : Division) (answer : Bool) → length (answer_rows q d answer) ≡ 2
-two_rows q d true = refl
-two_rows q d false = refl
 
 all_long : (q : ℕ) (tests : List Division) (answers : List Bool) → length answers ≤ length tests
     → length (all_rows q tests answers) ≡ 2 * length answers

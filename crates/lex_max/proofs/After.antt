@@ -33,7 +33,7 @@ use Rattle.difference_graphs.specs.declared.edges.Edge.{Edge}
 use Rattle.difference_graphs.specs.declared.writes.Writes.{Writes}
 use Rattle.lex_max.proofs.PointSystems.{Opposes}
 use Rattle.difference_graphs.proofs.ProblemBounds.{asked_fits, IsKnown}
-use Rattle.lex_max.proofs.LeafParts.{less_opposes, place_taken, shown_refuted}
+use Rattle.lex_max.proofs.LeafParts.{less_opposes, place_taken, shown_refuted, place_taken_here}
 use Rattle.lex_max.proofs.Levels.{later_row, of_level, same_at, sooner_row, AreOfLevel}
 use Rattle.difference_graphs.proofs.Differences.{past_part}
 use Rattle.difference_graphs.proofs.OrderEdges.{length_variables, reader_at, variable_at}
@@ -88,10 +88,6 @@ module _ (w : Writes) (c : Context) (context : System) (place : List Form) (here
   own = of_level (common_of (write_of w) (read_of w)) w.level
       (nat_lt w.write.number w.read.number) place readers level level_is
 
-  pub place_taken_here : AreTaken c.vars place
-  place_taken_here =
-      place_taken c.vars w.vars place (omega (arith, leaf.vars)) leaf.placed.over leaf.placed.within
-
   pub readers_taken : AreTaken c.vars readers
   readers_taken = variables_taken c.vars 0 (depth_of_read w) (omega (arith, leaf.vars, fits.reader))
 
@@ -112,7 +108,8 @@ module _ (w : Writes) (c : Context) (context : System) (place : List Form) (here
       let s : IsSmallLevel c.vars (order_rows swapped (nat_lt w.read.number w.write.number) readers place) l
       = level_at c.vars swapped l (nat_lt w.read.number w.write.number) readers place
       (omega (arith, length_variables 0 (depth_of_read w), swapped_is, fits.common_vars))
-      (omega (arith, leaf.placed.deep, swapped_is, fits.common_loops)) has readers_taken place_taken_here in
+      (omega (arith, leaf.placed.deep, swapped_is, fits.common_loops)) has readers_taken
+      (place_taken_here w c context place here leaf) in
       subst (AreSmall c.vars) (same_Some s.rows rows (sym s.is ∙ is)) s.small
 
   -- a level above the candidate's
@@ -203,7 +200,8 @@ module _ (w : Writes) (c : Context) (context : System) (place : List Form) (here
       let x_is : slice_get readers w.level ≡ Some x =
       reader_at (depth_of_read w) w.level (omega (arith, common, fits.common_vars)) in
       shown_refuted w c context place here leaf (same_rows readers place) (2 * w.level + 1) (later_row x v.0) ts
-      (parts_of (sooner_row v.0 x)) row proof (same_small readers place readers_taken place_taken_here)
+      (parts_of (sooner_row v.0 x)) row proof
+      (same_small readers place readers_taken (place_taken_here w c context place here leaf))
       (same_at readers place w.level x v.0 x_is v.1) v.2 (later_opposes (Take v.0) (Take x)) row_is proof_is
 
 -- No other point of the writer stands between

@@ -114,8 +114,8 @@ small_differ vars e f h k =
 
 module _ (w : Writes) (c : Context) (context : System) (place : List Form) (here : ℕ)
     (leaf : IsLeafOf w c context place here) where
-  taken : AreTaken c.vars place
-  taken = place_taken c.vars w.vars place (omega (arith, leaf.vars)) leaf.placed.over leaf.placed.within
+  pub place_taken_here : AreTaken c.vars place
+  place_taken_here = place_taken c.vars w.vars place (omega (arith, leaf.vars)) leaf.placed.over leaf.placed.within
 
   -- a row that is below another one that is shown
   pub shown_refuted : (extra : List RowExpr) (j : ℕ) (last : RowExpr) (ts : List Term) (a : Part → ℤ) (row : ℕ)
@@ -141,7 +141,7 @@ module _ (w : Writes) (c : Context) (context : System) (place : List Form) (here
   outside_next row rows ts certs proof old middle new fits few fact proof_is is rest =
       let e : RowExpr = at_place row place in
       let small : IsSmallRow c.vars (below_zero e) most_made = small_below c.vars e
-      (placed_row c.vars (depth_of_write w) row place few (form_is (depth_of_write w) row fits) taken) in
+      (placed_row c.vars (depth_of_write w) row place few (form_is (depth_of_write w) row fits) place_taken_here) in
       let one = shown_refuted (below_zero e ∷ []) 0 (below_zero e) ts (parts_of e) here proof (small, tt) refl fact
       (below_opposes e) (omega arith) proof_is in
       adds_proof (with_rows c (below_zero e ∷ [])) (map
@@ -161,7 +161,8 @@ module _ (w : Writes) (c : Context) (context : System) (place : List Form) (here
       let a : RowExpr = at_place write place in
       let b : RowExpr = Take read in
       let small_a : IsSmallRow c.vars a most_placed =
-      placed_row c.vars (depth_of_write w) write place few (form_is (depth_of_write w) write cell.fits) taken in
+      placed_row c.vars (depth_of_write w) write place few (form_is (depth_of_write w) write cell.fits)
+      place_taken_here in
       let small_b : IsSmallRow c.vars b most_placed
       = farther_row c.vars most_taken most_placed b (omega arith)
       (taken_row c.vars read

@@ -32,12 +32,12 @@ use Rattle.difference_graphs.specs.Rounds.{IsGraphOf}
 use Rattle.difference_graphs.specs.Simple.{IsLightSum}
 use Rattle.difference_graphs.specs.declared.edges.Edge.{Edge}
 use Rattle.difference_graphs.specs.declared.writes.Writes.{Writes}
-use Rattle.lex_max.proofs.After.{after_above, after_at, after_below, place_taken_here, readers_taken}
+use Rattle.lex_max.proofs.After.{after_above, after_at, after_below, readers_taken}
 use Rattle.lex_max.proofs.After.{same_refuted, swapped_is}
 use Rattle.difference_graphs.proofs.FactSums.{fact_same}
 use Rattle.difference_graphs.proofs.ProblemBounds.{asked_fits, IsKnown}
 use Rattle.lex_max.proofs.LeafParts.{adds_more_proofs, adds_no_proofs, adds_one_proof, cell_next, outside_next}
-use Rattle.lex_max.proofs.LeafParts.{place_taken}
+use Rattle.lex_max.proofs.LeafParts.{place_taken, place_taken_here}
 use Rattle.lex_max.proofs.Levels.{of_level, AreOfLevel}
 use Rattle.difference_graphs.proofs.MadeRows.{taken_all}
 use Rattle.difference_graphs.proofs.OrderEdges.{length_variables}
@@ -210,7 +210,7 @@ module _ (w : Writes) (c : Context) (context : System) (place : List Form) (here
       (omega (arith, length_variables 0 (depth_of_read w), same_common, k.leaf.asked.common, fits.common_vars))
       (omega (arith, k.leaf.placed.deep, same_common, k.leaf.asked.common, fits.common_loops))
       (has_level l has) (readers_taken w c context place here k.leaf k.level order k.level_is k.shown)
-      (place_taken_here w c context place here k.leaf k.level order k.level_is k.shown)
+      (place_taken_here w c context place here k.leaf)
 
   pub is_above : (l row : ℕ) (ts : List Term) (proof : Proof) → HasAfter w l → l < w.level → slice_get order (2 * l + 1)
       ≡ Some ts → row ≡ here + 2 * l → proof ≡ Sum (ts ++ term_of row ∷ [])

@@ -5,7 +5,7 @@
 -- leaves 128 bits, and the sum within 128 bits is the sum without bounds. The bound is of the numbers' amounts alone:
 -- that they cancel is used nowhere.
 use Rattle.std.proofs.Common.{◌≡◌, ℕ, zero, suc, ◌+◌, ◌*◌, ◌^◌, ◌<◌, ◌≤◌, ℤ, pos, negsuc, ◌+ℤ◌, ◌*ℤ◌, List, [], ◌∷◌}
-use Rattle.std.proofs.Common.{Bool, true, false, cond, refl, ap, ◌∙◌, arith, add-mul}
+use Rattle.std.proofs.Common.{true, refl, ap, ◌∙◌, arith, add-mul}
 use Rattle.std.specs.Prelude.{Option, Some, None, All, slice_get}
 use Rattle.std.specs.Option.{option_and_then}
 use Rattle.std.specs.List.{list_all}
@@ -14,7 +14,7 @@ use Rattle.std.proofs.lemmas.Int.{ints}
 use Rattle.std.proofs.lemmas.List.Elements.{All-nil, All-cons, All-head, All-tail}
 use Rattle.std.proofs.lemmas.Option.{same_Some}
 use Rattle.std.proofs.Math.Nat.{mul-le-mul_left}
-use Rattle.std.proofs.lemmas.Bool.{and_from}
+use Rattle.std.proofs.lemmas.Bool.{and_from, cond-true}
 use Rattle.affine_core.specs.declared.form.Form.{Form}
 use Rattle.affine_core.specs.Affine.{form_product, form_sum, products, sums}
 use Rattle.affine_core.specs.Within.{fits_128_bits, form_fits_128_bits, form_in_128_bits}
@@ -42,13 +42,10 @@ all_fit bound (z ∷ zs) h k =
     (fits_below bound z (All-head (λ c. unsigned_abs c ≤ bound) z zs h) k)
     (all_fit bound zs (All-tail (λ c. unsigned_abs c ≤ bound) z zs h) k)
 
-kept_if : (b : Bool) (f : Form) → b ≡ true → cond b (Some f) None ≡ Some f
-kept_if true f e = refl
-kept_if false f e = absurd (cc)
-
 pub in_bits_within : (bound : ℕ) (f : Form) → IsWithin bound f → bound < 2 ^ 127 → form_in_128_bits f ≡ Some f
 in_bits_within bound f h k =
-    kept_if (form_fits_128_bits f) f (and_from (fits_128_bits f.constant) (list_all fits_128_bits f.coefs)
+    cond-true (form_fits_128_bits f) (Some f) None
+    (and_from (fits_128_bits f.constant) (list_all fits_128_bits f.coefs)
     (fits_below bound f.constant h.constant k) (all_fit bound f.coefs h.coefs k))
 
 product_below : (bound : ℕ) (z by : ℤ) → unsigned_abs z ≤ bound → unsigned_abs (z *ℤ by) ≤ unsigned_abs by * bound

@@ -10,7 +10,7 @@ use Rattle.std.proofs.Common.{leb-true}
 use Rattle.std.specs.Prelude.{Option, Some, None, nat_le}
 use Rattle.std.specs.List.{list_all}
 use Rattle.std.specs.Option.{option_and_then}
-use Rattle.std.proofs.lemmas.Bool.{le-leb, and_parts, and_from, eq-eqb}
+use Rattle.std.proofs.lemmas.Bool.{le-leb, and_parts, and_from, eq-eqb, cond-true}
 use Rattle.std.proofs.lemmas.Option.{same_Some, option_and_then_some}
 use Rattle.std.proofs.lemmas.List.{length-map}
 use Rattle.affine_core.specs.declared.form.Form.{Form}
@@ -62,15 +62,11 @@ fits_where f g e = go (form_fits_128_bits f) refl e where
   go true is e = is
   go false is e = absurd (let h : None ≡ Some g = e in cc)
 
-kept_if : (b : Bool) (f : Form) → b ≡ true → cond b (Some f) None ≡ Some f
-kept_if true f e = refl
-kept_if false f e = absurd (cc)
-
 widened_fits : (more : ℕ) (f : Form) → form_fits_128_bits f ≡ true → form_in_128_bits (widened_form more f)
     ≡ Some (widened_form more f)
 widened_fits more f e =
     let b = and_parts (fits_128_bits f.constant) (list_all fits_128_bits f.coefs) e in
-    kept_if (form_fits_128_bits (widened_form more f)) (widened_form more f)
+    cond-true (form_fits_128_bits (widened_form more f)) (Some (widened_form more f)) None
     (and_from (fits_128_bits f.constant) (list_all fits_128_bits (f.coefs ++ zeros (more - length f.coefs))) b.0
     (fits_zeros f.coefs (more - length f.coefs) b.1))
 

@@ -41,6 +41,17 @@ All-once_rows order a b k l =
     All-cons (λ (t : Term). t.row < order) (once_row a) (once_row b ∷ []) k
     (All-cons (λ (t : Term). t.row < order) (once_row b) [] l (All-nil _))
 
+pub weighted_sum-once : (number : ℕ → ℤ) (a : ℕ) → weighted_sum number (once_row a ∷ []) ≡ number a
+weighted_sum-once number a = omega (arith, ints)
+
+pub weighted_sum-once_rows : (number : ℕ → ℤ) (a b : ℕ)
+    → weighted_sum number (once_row a ∷ once_row b ∷ []) ≡ number a +ℤ number b
+weighted_sum-once_rows number a b = omega (arith, ints)
+
+pub once_rows-positive : (a b : ℕ) → All (λ t. pos 0 ≤ℤ t.times) (once_row a ∷ once_row b ∷ [])
+once_rows-positive a b = All-cons (λ (t : Term). pos 0 ≤ℤ t.times) (once_row a) (once_row b ∷ []) (omega (arith, ints))
+    (All-cons (λ (t : Term). pos 0 ≤ℤ t.times) (once_row b) [] (omega (arith, ints)) (All-nil _))
+
 -- a number as a row
 abbrev pub number_part : ℤ → RowParts
 number_part k part = parts_of (number k) part
@@ -124,15 +135,12 @@ module _ (vars : ℕ) (rows : List Form) (d here up down : ℕ) (f q v : RowPart
       let same : high_row part +ℤ v part ≡ q part = omega (arith, ints) in
       omega (arith, ints, whole, ap (λ z. z *ℤ pos d) same)
 
-  two_rows : (number : ℕ → ℤ) (a b : ℕ) → weighted_sum number (once_row a ∷ once_row b ∷ []) ≡ number a +ℤ number b
-  two_rows number a b = omega (arith, ints)
-
   low_sum : (part : Part) → weighted_sum (row_part rows part) (once_row here ∷ once_row up ∷ [])
       ≡ number_part (negsuc 0) part +ℤ (gap part *ℤ pos d)
   low_sum part = omega (
     arith,
     ints,
-    two_rows (row_part rows part) here up,
+    weighted_sum-once_rows (row_part rows part) here up,
     h.low part,
     h.above part,
     gap_times part,
@@ -143,25 +151,16 @@ module _ (vars : ℕ) (rows : List Form) (d here up down : ℕ) (f q v : RowPart
   high_sum part = omega (
     arith,
     ints,
-    two_rows (row_part rows part) (here + 1) down,
+    weighted_sum-once_rows (row_part rows part) (here + 1) down,
     h.high part,
     h.below part,
     back_times part,
   )
 
-  two_inside : (a b : ℕ) → a < length rows → b < length rows
-      → All (λ t. t.row < length rows) (once_row a ∷ once_row b ∷ [])
-  two_inside a b k l = All-cons (λ (t : Term). t.row < length rows) (once_row a) (once_row b ∷ []) k
-      (All-cons (λ (t : Term). t.row < length rows) (once_row b) [] l (All-nil _))
-
-  two_positive : (a b : ℕ) → All (λ t. pos 0 ≤ℤ t.times) (once_row a ∷ once_row b ∷ [])
-  two_positive a b = All-cons (λ (t : Term). pos 0 ≤ℤ t.times) (once_row a) (once_row b ∷ []) (omega (arith, ints))
-      (All-cons (λ (t : Term). pos 0 ≤ℤ t.times) (once_row b) [] (omega (arith, ints)) (All-nil _))
-
   low_multiple : IsMultipleOf rows d (once_row here ∷ once_row up ∷ []) low_row
   low_multiple = record {
-    name_rows = two_inside here up (omega (arith, h.here_in)) h.up_in;
-    not_negative = two_positive here up;
+    name_rows = All-once_rows (length rows) here up (omega (arith, h.here_in)) h.up_in;
+    not_negative = once_rows-positive here up;
     constant = ap (λ z. floor z d) (low_sum the_constant) ∙ floor_shifted (negsuc 0) (gap the_constant) d h.positive
         ∙ ap (λ z. z +ℤ gap the_constant) (below_one d h.positive) ∙ turned (negsuc 0) (gap the_constant);
     coefs = λ i. low_sum (the_coefficient i) ∙ none_before (gap (the_coefficient i) *ℤ pos d)
@@ -178,8 +177,8 @@ module _ (vars : ℕ) (rows : List Form) (d here up down : ℕ) (f q v : RowPart
 
   high_multiple : IsMultipleOf rows d (once_row (here + 1) ∷ once_row down ∷ []) high_row
   high_multiple = record {
-    name_rows = two_inside (here + 1) down h.here_in h.down_in;
-    not_negative = two_positive (here + 1) down;
+    name_rows = All-once_rows (length rows) (here + 1) down h.here_in h.down_in;
+    not_negative = once_rows-positive (here + 1) down;
     constant = ap (λ z. floor z d) (high_sum the_constant)
         ∙ floor_shifted (pos d +ℤ negsuc 0) (high_row the_constant) d h.positive
         ∙ ap (λ z. z +ℤ high_row the_constant) (below_next d h.positive) ∙ none_before (high_row the_constant);
@@ -266,8 +265,14 @@ module _ (vars : ℕ) (rows : List Form) (d here up down : ℕ) (f q v : RowPart
   both = once_row (length rows) ∷ once_row (length rows + 1) ∷ []
 
   both_sum : (part : Part) → weighted_sum (row_part whole part) both ≡ low_row part +ℤ high_row part
-  both_sum part = omega
-      (arith, ints, two_rows (row_part whole part) (length rows) (length rows + 1), last_low part, last_high part)
+  both_sum part =
+      omega (
+        arith,
+        ints,
+        weighted_sum-once_rows (row_part whole part) (length rows) (length rows + 1),
+        last_low part,
+        last_high part,
+      )
 
   count_whole : length whole ≡ length rows + 2
   count_whole = length-append rows added
@@ -277,7 +282,7 @@ module _ (vars : ℕ) (rows : List Form) (d here up down : ℕ) (f q v : RowPart
     name_rows = All-cons (λ (t : Term). t.row < length whole) (once_row (length rows)) (once_row (length rows + 1) ∷ [])
         (omega (arith, count_whole)) (All-cons (λ (t : Term). t.row < length whole) (once_row (length rows + 1)) []
         (omega (arith, count_whole)) (All-nil _));
-    not_negative = two_positive (length rows) (length rows + 1);
+    not_negative = once_rows-positive (length rows) (length rows + 1);
     at_most = omega (arith, ints, both_sum the_constant);
     same = λ i l. both_sum (the_coefficient i);
   }

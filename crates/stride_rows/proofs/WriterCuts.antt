@@ -24,7 +24,8 @@ use Rattle.source_tree.specs.Rows.{RowExpr, Take, Plus, Times, below_zero, numbe
 use Rattle.stride_rows.specs.Cuts.{AddsRow}
 use Rattle.stride_rows.proofs.CutRows.{cut_adds, IsAdded, IsMultipleOf}
 use Rattle.stride_rows.proofs.Floors.{floor_opposite, floor_shifted}
-use Rattle.stride_rows.proofs.Indivisible.{number_part, once_row}
+use Rattle.stride_rows.proofs.Indivisible.{number_part, once_row, weighted_sum-once, weighted_sum-once_rows}
+use Rattle.stride_rows.proofs.Indivisible.{All-once_rows, once_rows-positive}
 
 -- Equal rows
 
@@ -89,10 +90,6 @@ divided_terms d a b (c ∷ cs) (f ∷ place) part positive h =
           sum_times (wb -ℤ (b +ℤ y)) y (pos d) in
           let same : (wb -ℤ (b +ℤ y)) +ℤ y ≡ wb -ℤ b = omega (arith, ints) in
           omega (arith, ints, rest, term, split, ap (λ z. z *ℤ pos d) same)
-
--- the one row of a Cut, once
-pub weighted_sum-once : (number : ℕ → ℤ) (k : ℕ) → weighted_sum number (once_row k ∷ []) ≡ number k
-weighted_sum-once number k = omega (arith, ints)
 
 module _ (rows : List Form) (d k : ℕ) (form : Form) (place : List Form) (positive : 0 < d) (inside : k < length rows)
     (divisible : All (λ c. unsigned_abs c % d ≡ 0) form.coefs) where
@@ -201,22 +198,11 @@ module _ (rows : List Form) (d at up down : ℕ) (f q v : RowParts) (h : AreDivi
     (less : ℤ) (less_is : floor less d ≡ less)
     (above : (part : Part) → row_part rows part up ≡ ((v part *ℤ pos d) -ℤ f part) +ℤ number_part less part)
     (below : (part : Part) → row_part rows part down ≡ (f part -ℤ (v part *ℤ pos d)) +ℤ number_part less part) where
-  two : (number : ℕ → ℤ) (a b : ℕ) → weighted_sum number (once_row a ∷ once_row b ∷ []) ≡ number a +ℤ number b
-  two number a b = omega (arith, ints)
-
   difference_times : (x y : ℤ) → (x -ℤ y) *ℤ pos d ≡ (x *ℤ pos d) -ℤ (y *ℤ pos d)
   difference_times x y =
       let whole : ((x -ℤ y) +ℤ y) *ℤ pos d ≡ ((x -ℤ y) *ℤ pos d) +ℤ (y *ℤ pos d) = sum_times (x -ℤ y) y (pos d) in
       let same : (x -ℤ y) +ℤ y ≡ x = omega (arith, ints) in
       omega (arith, ints, whole, ap (λ z. z *ℤ pos d) same)
-
-  two_names : (a b : ℕ) → a < length rows → b < length rows → All (λ t. t.row < length rows) (once_row a ∷ once_row b ∷ [])
-  two_names a b k l = All-cons (λ (t : Term). t.row < length rows) (once_row a) (once_row b ∷ []) k
-      (All-cons (λ (t : Term). t.row < length rows) (once_row b) [] l (All-nil _))
-
-  two_positive : (a b : ℕ) → All (λ t. pos 0 ≤ℤ t.times) (once_row a ∷ once_row b ∷ [])
-  two_positive a b = All-cons (λ (t : Term). pos 0 ≤ℤ t.times) (once_row a) (once_row b ∷ []) (omega (arith, ints))
-      (All-cons (λ (t : Term). pos 0 ≤ℤ t.times) (once_row b) [] (omega (arith, ints)) (All-nil _))
 
   -- v - q, less the number
   pub above_multiple : IsMultipleOf rows d (once_row up ∷ once_row at ∷ [])
@@ -227,14 +213,14 @@ module _ (rows : List Form) (d at up down : ℕ) (f q v : RowParts) (h : AreDivi
       λ part. omega (
         arith,
         ints,
-        two (row_part rows part) up at,
+        weighted_sum-once_rows (row_part rows part) up at,
         above part,
         h.low part,
         difference_times (v part) (q part),
       ) in
       record {
-        name_rows = two_names up at h.up_in (omega (arith, h.at_in));
-        not_negative = two_positive up at;
+        name_rows = All-once_rows (length rows) up at h.up_in (omega (arith, h.at_in));
+        not_negative = once_rows-positive up at;
         constant = ap (λ z. floor z d) (sum the_constant)
             ∙ floor_shifted less (v the_constant -ℤ q the_constant) d h.positive
             ∙ ap (λ z. z +ℤ (v the_constant -ℤ q the_constant)) less_is ∙ +ℤ_comm less (v the_constant -ℤ q the_constant);
@@ -255,14 +241,14 @@ module _ (rows : List Form) (d at up down : ℕ) (f q v : RowParts) (h : AreDivi
       λ part. omega (
         arith,
         ints,
-        two (row_part rows part) down (at + 1),
+        weighted_sum-once_rows (row_part rows part) down (at + 1),
         below part,
         h.high part,
         difference_times (q part) (v part),
       ) in
       record {
-        name_rows = two_names down (at + 1) h.down_in h.at_in;
-        not_negative = two_positive down (at + 1);
+        name_rows = All-once_rows (length rows) down (at + 1) h.down_in h.at_in;
+        not_negative = once_rows-positive down (at + 1);
         constant = ap (λ z. floor z d) (sum the_constant)
             ∙ floor_shifted less (q the_constant -ℤ v the_constant) d h.positive
             ∙ ap (λ z. z +ℤ (q the_constant -ℤ v the_constant)) less_is ∙ +ℤ_comm less (q the_constant -ℤ v the_constant);

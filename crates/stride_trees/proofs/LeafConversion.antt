@@ -47,7 +47,7 @@ use Rattle.stride_trees.specs.Candidates.{at_test as cut_test, at_writer as cut_
 use Rattle.stride_trees.specs.Candidates.{AreCutSums, AreNoneCutSums, AreWriterCutSums, IsCutTree}
 use Rattle.stride_trees.specs.Contexts.{outside_cell_systems, own_system, told_system, AddsConverted, AreMadeSmall}
 use Rattle.stride_trees.specs.Contexts.{AreOrders, AreTestsIn, IsConvertedTree, IsPlaceIn, IsTestedContext}
-use Rattle.stride_trees.specs.Problem.{problem_reads, problem_write, told_read, told_write}
+use Rattle.stride_trees.specs.Problem.{problem_write, told_read, told_write}
 use Rattle.stride_rows.specs.Sources.{divided_form, next_place, places_behind}
 use Rattle.stride_trees.specs.Strides.{depth_of_read, depth_of_write, read_of, root_of, write_of, IsStrided}
 use Rattle.stride_trees.specs.declared.strides.Strides.{Strides}
@@ -55,6 +55,7 @@ use Rattle.stride_trees.proofs.ProblemBounds.{are_fitting, AreFitting}
 use Rattle.stride_trees.proofs.Lists.{forms_count}
 use Rattle.stride_trees.proofs.RowReach.{below_reached, reached_farther, reached_made, taken_reached, IsMadeWithin}
 use Rattle.stride_trees.proofs.Rows.{level_count}
+use Rattle.stride_trees.proofs.SystemConversion.{reads_count}
 
 -- Contexts below a Test
 
@@ -210,13 +211,6 @@ pub length-differ_rows : (writes reads place : List Form) → length writes ≡ 
 length-differ_rows [] reads place e = refl
 length-differ_rows (write ∷ writes) [] place e = absurd (omega arith)
 length-differ_rows (write ∷ writes) (read ∷ reads) place e = omega (arith, length-differ_rows writes reads place (omega (arith, e)))
-
-reads_count : (vars depth : ℕ) (places : List ℕ) (writes reads : List Form) → length writes ≡ length reads
-    → length writes ≡ length (problem_reads vars depth places writes reads)
-reads_count vars depth places [] reads e = refl
-reads_count vars depth places (write ∷ writes) [] e = absurd (omega arith)
-reads_count vars depth places (write ∷ writes) (read ∷ reads) e =
-    ap suc (reads_count vars depth (places_behind write places) writes reads (omega (arith, e)))
 
 place_taken : (c : Context) (vars : ℕ) (place : List Form) → c.vars ≤ vars → HaveVariables c.vars place
     → All (IsWithin (2 ^ 40)) place → AreTaken vars place

@@ -37,11 +37,11 @@ moved_part write read the_constant = refl
 moved_part write read (the_coefficient i) = omega (arith, ints)
 
 -- a stride above 0 is its size, and one below 0 the opposite of its size
-positive_sign : (c : ℤ) → int_lt (pos 0) c ≡ true → c ≡ pos (unsigned_abs c)
+pub positive_sign : (c : ℤ) → int_lt (pos 0) c ≡ true → c ≡ pos (unsigned_abs c)
 positive_sign (pos n) e = refl
 positive_sign (negsuc n) e = absurd (grind (arith, ints))
 
-negative_sign : (c : ℤ) → int_lt (pos 0) c ≡ false → c ≡ pos (unsigned_abs c) *ℤ negsuc 0
+pub negative_sign : (c : ℤ) → int_lt (pos 0) c ≡ false → c ≡ pos (unsigned_abs c) *ℤ negsuc 0
 negative_sign (pos zero) e = omega (arith, ints)
 negative_sign (pos (suc n)) e = absurd (grind (arith, ints))
 negative_sign (negsuc n) e = omega (arith, ints)
@@ -68,7 +68,7 @@ at_stride write place part c even single is =
     ∙ ap (λ c. number_part write.constant part +ℤ (row_part place part (loop_of write.coefs) *ℤ c))
     (stride_coefficient write.coefs c (few_others write single) is)
 
-times_opposite : (v : ℤ) (d : ℕ) → v *ℤ (pos d *ℤ negsuc 0) ≡ (v *ℤ pos d) *ℤ negsuc 0
+pub times_opposite : (v : ℤ) (d : ℕ) → v *ℤ (pos d *ℤ negsuc 0) ≡ (v *ℤ pos d) *ℤ negsuc 0
 times_opposite v d = sym (times_assoc v (pos d) (negsuc 0))
 
 module _ (vars : ℕ) (write read : Form) (place : List Form) (c : ℤ) (k : ℕ)

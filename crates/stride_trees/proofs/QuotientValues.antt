@@ -3,7 +3,7 @@
 -- A domain row over quotients has the value of the row divided and rounded down, so both are at least 0 at the same
 -- points. A subscript has one loop, so with a stride it has the read's value where its loop is the quotient, if the
 -- divisor times the quotient is the value of the test's form: the multiples of two numbers are equal where these are.
-use Rattle.std.proofs.Common.{◌≡◌, ◌+◌, ◌%◌, ◌≤◌, ◌<◌, ◌||◌, ◌&&◌, ◌/◌, ℕ, zero, suc, ℤ, pos, negsuc, ◌+ℤ◌, ◌-ℤ◌, ◌*ℤ◌}
+use Rattle.std.proofs.Common.{◌≡◌, ◌+◌, ◌%◌, ◌≤◌, ◌<◌, ◌||◌, ◌&&◌, ◌/◌, ℕ, suc, ℤ, pos, negsuc, ◌+ℤ◌, ◌-ℤ◌, ◌*ℤ◌}
 use Rattle.std.proofs.Common.{List, [], ◌∷◌, ◌++◌, length, map, Bool, true, false, cond, refl, sym, ap, ◌∙◌, arith}
 use Rattle.std.specs.Prelude.{Option, Some, None, All, int_le, is_some, not, slice_index_or, unsigned_abs}
 use Rattle.std.specs.List.{list_all}
@@ -14,7 +14,7 @@ use Rattle.std.proofs.lemmas.Int.{ints}
 use Rattle.std.proofs.lemmas.List.Elements.{All-head, All-tail}
 use Rattle.std.proofs.lemmas.Bool.{and_parts}
 use Rattle.affine_core.proofs.Linear.{combined_is, dot, form_at_more, product_at, variable_at, widened_at}
-use Rattle.affine_core.proofs.Ring.{sum_times, times_assoc, times_swap}
+use Rattle.affine_core.proofs.Ring.{sum_times, times_swap}
 use Rattle.affine_core.specs.declared.form.Form.{Form}
 use Rattle.affine_core.specs.Affine.{form_at, form_product, variable_form, widened_form}
 use Rattle.affine_core.proofs.Integers.{int_eq-true}
@@ -27,7 +27,7 @@ use Rattle.stride_trees.specs.Problem.{problem_read, problem_rows, problem_write
 use Rattle.stride_rows.specs.Sources.{divided_form, falls, loop_of}
 use Rattle.stride_rows.proofs.Coefficients.{how_many, is_other, none_other, once}
 use Rattle.stride_rows.proofs.Floors.{floor_multiple, floor_shifted}
-use Rattle.stride_trees.proofs.NoSystems.{few_others}
+use Rattle.stride_trees.proofs.NoSystems.{few_others, positive_sign, negative_sign, times_opposite}
 use Rattle.stride_trees.proofs.Quotients.{read_is, write_is}
 use Rattle.stride_rows.proofs.Singles.{coefficient_of, less_coefficient, stride_coefficient}
 use Rattle.stride_rows.proofs.RowSources.{stride_divides}
@@ -143,18 +143,6 @@ moved_at write read at = omega (
   combined_is (read.constant -ℤ write.constant) read.coefs at,
   combined_is read.constant read.coefs at,
 )
-
-positive_sign : (c : ℤ) → int_lt (pos 0) c ≡ true → c ≡ pos (unsigned_abs c)
-positive_sign (pos n) e = refl
-positive_sign (negsuc n) e = absurd (grind (arith, ints))
-
-negative_sign : (c : ℤ) → int_lt (pos 0) c ≡ false → c ≡ pos (unsigned_abs c) *ℤ negsuc 0
-negative_sign (pos zero) e = omega (arith, ints)
-negative_sign (pos (suc n)) e = absurd (grind (arith, ints))
-negative_sign (negsuc n) e = omega (arith, ints)
-
-times_opposite : (v : ℤ) (d : ℕ) → v *ℤ (pos d *ℤ negsuc 0) ≡ (v *ℤ pos d) *ℤ negsuc 0
-times_opposite v d = sym (times_assoc v (pos d) (negsuc 0))
 
 -- the form of a test, for the loop value v: that many times the divisor where the subscript has the read's value
 pub test_value : (write read : Form) (j x : List ℤ) (c : ℤ) → is_single write ≡ true → stride_of write ≡ Some c

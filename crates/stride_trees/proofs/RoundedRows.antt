@@ -28,8 +28,7 @@ use Rattle.row_sums.proofs.Within.{IsWithin-from_parts}
 use Rattle.stride_rows.specs.declared.cuts.Cut.{Cut}
 use Rattle.stride_rows.proofs.CutRows.{cut_adds, cuts_refute, IsAdded, IsMultipleOf}
 use Rattle.stride_rows.proofs.Floors.{floor_multiple}
-use Rattle.stride_rows.proofs.Indivisible.{once_row}
-use Rattle.stride_rows.proofs.WriterCuts.{weighted_sum-once}
+use Rattle.stride_rows.proofs.Indivisible.{once_row, weighted_sum-once}
 
 -- one Cut, and the Sum of what it adds, so many times, and the second row
 abbrev pub rounded_proof : ℤ → ℕ → ℕ → ℕ → Proof

@@ -148,7 +148,7 @@ pub record AreToldRows (vars : ℕ) (context order : List Form) (domain cells : 
   pub domain_made : row_forms vars domain ≡ Some domain_rows
   pub cells_made : row_forms vars cells ≡ Some cells_rows
 
-reads_count : (vars depth : ℕ) (places : List ℕ) (writes reads : List Form) → length writes ≡ length reads
+pub reads_count : (vars depth : ℕ) (places : List ℕ) (writes reads : List Form) → length writes ≡ length reads
     → length writes ≡ length (problem_reads vars depth places writes reads)
 reads_count vars depth places [] reads e = refl
 reads_count vars depth places (write ∷ writes) [] e = absurd (omega arith)

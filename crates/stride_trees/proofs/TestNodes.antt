@@ -60,8 +60,7 @@ pub record HasRoom (s : Strides) : Type 0 where
 
 pub room : (s : Strides) → IsStrided s → HasRoom s
 room s strided =
-    let f : AreFitting s.nest.now (read_of s) (write_of s) s.level =
-    are_fitting s.nest.now (read_of s) (write_of s) s.level strided.strided in
+    let f : AreFitting s.nest.now (read_of s) (write_of s) s.level = fitting_of s strided in
     record {
       rows = f.few_rows;
       subscripts = f.few_subscripts;
@@ -80,8 +79,8 @@ subscript_room s d strided test =
 -- The no
 
 module _ (s : Strides) (d : Division) (strided : IsStrided s) (test : IsTestOf s d) where
-  fits : AreFitting s.nest.now (read_of s) (write_of s) s.level
-  fits = are_fitting s.nest.now (read_of s) (write_of s) s.level strided.strided
+  abbrev fits : AreFitting s.nest.now (read_of s) (write_of s) s.level
+  fits = fitting_of s strided
 
   write_fits : FormFits (length s.write.statement.now.loops) test.write
   write_fits = form_is (length s.write.statement.now.loops) test.write

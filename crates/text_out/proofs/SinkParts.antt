@@ -67,22 +67,13 @@ module _ {S : Type 0} (held : S → Option (List ℕ)) (faults : S → ℕ) (fir
     subst (λ (s : S). Rose (faults first) (faults s)) (sym same) so_far.1,
   )
 
-  by_cases : (p q : Bool) → ReachesSink p (held first) (held mid) (faults first) (faults mid) text
+  -- so the text and its next part were handed over
+  pub handed_on : (p q : Bool) → ReachesSink p (held first) (held mid) (faults first) (faults mid) text
       → (p ≡ true → (q ≡ true) × (now ≡ mid))
       → (p ≡ false → ReachesSink q (held mid) (held now) (faults mid) (faults now) more)
       → ReachesSink q (held first) (held now) (faults first) (faults now) (text ++ more)
-  by_cases true q so_far stays goes = stopped q so_far (stays refl).0 (stays refl).1
-  by_cases false q so_far stays goes = behind q so_far (goes refl)
-
--- so the text and its next part were handed over
-pub handed_on : {S : Type 0} (held : S → Option (List ℕ)) (faults : S → ℕ) (first mid now : S) (text more : List ℕ)
-    (p q : Bool)
-    → ReachesSink p (held first) (held mid) (faults first) (faults mid) text
-    → (p ≡ true → (q ≡ true) × (now ≡ mid))
-    → (p ≡ false → ReachesSink q (held mid) (held now) (faults mid) (faults now) more)
-    → ReachesSink q (held first) (held now) (faults first) (faults now) (text ++ more)
-handed_on held faults first mid now text more p q so_far stays goes =
-    by_cases held faults first mid now text more p q so_far stays goes
+  handed_on true q so_far stays goes = stopped q so_far (stays refl).0 (stays refl).1
+  handed_on false q so_far stays goes = behind q so_far (goes refl)
 
 -- where a write failed, a front came
 pub front_of_failed : (failed : Bool) (held now : Option (List ℕ)) (faults count : ℕ) (text all : List ℕ)

@@ -80,9 +80,6 @@ module _ (n : Nest) (r w : Occurrence) (p : ℕ) (c : Context) (here i : ℕ) (w
   whole_count : length whole ≡ here + (length forms + (2 * length w.access.subscripts + length order))
   whole_count = standing.whole_count n r w p c here strided small reader order order_made
 
-  rows_count : length c.rows ≡ here
-  rows_count = sym (forms_count c.vars c.rows small.rows small.made) ∙ small.count
-
   -- the rows of the test
 
   abbrev f : RowParts
@@ -99,7 +96,8 @@ module _ (n : Nest) (r w : Occurrence) (p : ℕ) (c : Context) (here i : ℕ) (w
       (omega (
         arith,
         slice_get_within c.rows k row row_is,
-        rows_count,
+        forms_count c.vars c.rows small.rows small.made,
+        small.count,
         standing.wide_count n r w p c here strided small reader
             order order_made,
       )))
@@ -123,7 +121,8 @@ module _ (n : Nest) (r w : Occurrence) (p : ℕ) (c : Context) (here i : ℕ) (w
   test_in = omega (
     arith,
     whole_count,
-    rows_count,
+    forms_count c.vars c.rows small.rows small.made,
+    small.count,
     slice_get_within c.rows (test + 1)
         (high_expr quotient (widened_form quotient (division_of i write read stride).form) (pos d)) second,
   )

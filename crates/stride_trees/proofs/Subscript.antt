@@ -84,9 +84,6 @@ module _ (n : Nest) (r w : Occurrence) (p : ℕ) (c : Context) (here i : ℕ) (w
   whole_count : length whole ≡ here + (length forms + (2 * length w.access.subscripts + length order))
   whole_count = standing.whole_count n r w p c here strided small reader order order_made
 
-  rows_count : length c.rows ≡ here
-  rows_count = sym (forms_count c.vars c.rows small.rows small.made) ∙ small.count
-
   write_fits : FormFits e write
   write_fits = form_is e write (list_all_at (form_fits e) w.access.subscripts i write fits.writes write_is)
 
@@ -109,7 +106,8 @@ module _ (n : Nest) (r w : Occurrence) (p : ℕ) (c : Context) (here i : ℕ) (w
   at_cell k row row_is part =
       let domain : List RowExpr = domain_rows forms place in
       let even : here + (length forms + k) ≡ length c.rows + (length domain + k) =
-      omega (arith, rows_count, length-domain_rows forms place) in
+      omega
+      (arith, forms_count c.vars c.rows small.rows small.made, small.count, length-domain_rows forms place) in
       ap (row_part whole part) even
       ∙ row_made more laid whole (length c.rows + (length domain + k)) row part laid_made
       (slice_get-append_right c.rows (domain ++ cells) (length domain + k) ∙ slice_get-append_right domain cells k ∙ row_is)

@@ -47,16 +47,27 @@ fn answer<K: Keeper>(
     gathered(alloc, nest, keeper, lists, outputs)
 }
 
-// Runs a network along a schedule that ends all.
-fn run_along(
+// Asks the gate for each process, as its worker does before it works.
+fn ask_for_each<G: Gate>(network: &Network, gate: &G)
+    requires { FitsNumbers (net_of network.now) }
+{
+    for process in 0..network.processes.len() as u32 {
+        gate.pass(process);
+    }
+}
+
+// Runs a network along a schedule that ends all. Each process asks the gate before.
+fn run_along<G: Gate>(
     nest: &Nest,
     points: &Points,
     inputs: &Inputs,
     network: &Network,
     schedule: &[u32],
     state: &mut State<i64>,
+    gate: &G,
 )
     requires points { points.now.of ≡ points_of nest.now }
+    requires numbers { FitsNumbers (net_of network.now) }
     requires sound { IsSound nest.now network.now }
     requires ends { EndsAll (net_of network.now) tags schedule.now }
     requires opening { run_of state.old ≡ start (net_of network.now) }
@@ -66,6 +77,7 @@ fn run_along(
 {
     every_order::<Tag, i64>();
     sound();
+    ask_for_each(network, gate);
     let rule = Values {
         nest,
         points,
@@ -77,8 +89,9 @@ fn run_along(
 /// Runs a network by one thread for each process, and gives the arrays after the nest. A worker asks the gate before it works,
 /// and its process tells the gate each value before it puts it.
 ///
-/// Where a thread can't be started, the network is run along the schedule instead, and that run asks and tells no gate. There is
-/// no refusal, and it takes no memory but for the starts.
+/// Where a thread can't be started, the network is run along the schedule instead. Then no worker has asked the gate, each process
+/// asks it before that run, and nothing is told. So each process asks once: one that asks twice has been run twice. There is no
+/// refusal, and it takes no memory but for the starts.
 pub fn run_threads<R: Threads + Wait + Sync, E: Ends + Send + Drop, G: Gate + Sync>(
     rt: &R,
     alloc: Global,
@@ -110,7 +123,7 @@ pub fn run_threads<R: Threads + Wait + Sync, E: Ends + Send + Drop, G: Gate + Sy
         let keeper = Rooms { rooms: &rooms };
         answer(alloc, nest, inputs, network, &keeper, lists, arrays)
     } else {
-        run_along(nest, points, inputs, network, schedule, &mut state);
+        run_along(nest, points, inputs, network, schedule, &mut state, gate);
         answer(alloc, nest, inputs, network, &state, lists, arrays)
     }
 }

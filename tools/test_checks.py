@@ -4,9 +4,10 @@
 usage: tools/test_checks.py [--compaan PROGRAM] [NAME]..      (NAME: faults whose check or text has this in it; all where none is named)
 
 Most faults are a program that passes the built one's answers on but for one, in which a text is another; others are a program that looks at
-no errors or that always ends with 10, and a copy of the repository in which a line is another. For the simulations by GHDL
-tools/hardware/faults.py does more of this; the tables of bench/, layers.py and gate.py judge nothing. Prints a row for each fault, and fails
-where one isn't told. It takes some minutes.
+no errors or that always ends with 10, and a copy of the repository in which a line is another. Some are wrong bodies that no clause refuses,
+since the answers are equal, or since want of memory is always allowed: the test of a crate (`rt try --test`), or the script, that is there for
+each is wanted to fail. For the simulations by GHDL tools/hardware/faults.py does more of this; the tables of bench/, layers.py and gate.py
+judge nothing. Prints a row for each fault, and fails where one isn't told. It takes some minutes, and a wrong body as many.
 """
 from __future__ import annotations
 
@@ -38,6 +39,8 @@ sys.exit(done.returncode)
 FEW = ["fir", "lu"]
 # Stands among the words for a folder that goes when the check has ended.
 KEPT = "KEPT"
+# The tests of a crate. Its words are the crate and the test that is to fail.
+TESTS = "rt try --test"
 
 
 @dataclass(frozen=True)
@@ -81,7 +84,7 @@ def changed(file: str, old: str, new: str, copied: tuple[str, ...] = ()) -> Call
     def make(folder: Path, program: str) -> tuple[Path, str]:
         for name in os.listdir(TOP):
             if name in ("tools", *copied):
-                shutil.copytree(TOP / name, folder / name, ignore=shutil.ignore_patterns("out", "proofs", "__pycache__"))
+                shutil.copytree(TOP / name, folder / name, ignore=shutil.ignore_patterns("out", "__pycache__"))
             elif name not in (".git", "out"):
                 (folder / name).symlink_to(TOP / name)
         path = folder / file
@@ -90,6 +93,21 @@ def changed(file: str, old: str, new: str, copied: tuple[str, ...] = ()) -> Call
             raise ValueError(f"{file} has no {old!r}")
         path.write_text(text.replace(old, new, 1) if old else new, encoding="utf-8")
         return folder, program
+
+    return make
+
+
+def other_program(file: str, old: str, new: str) -> Callable[[Path, str], tuple[Path, str]]:
+    """This repository with the unproved program of sources in which a file is another."""
+
+    def make(folder: Path, program: str) -> tuple[Path, str]:
+        changed(file, old, new, ("crates",))(folder, program)
+        start = [sys.executable, "-I", "-S", folder / "tools" / "front_door" / "start.py"]
+        done = subprocess.run([*start, "build", "--unproved"], cwd=folder, capture_output=True, text=True, check=False)
+        made = [it for it in (folder / "out" / "unproved").glob("*") if os.access(it, os.X_OK)]
+        if done.returncode or len(made) != 1:
+            raise ValueError(f"no program is made: {done.stderr}")
+        return TOP, str(made[0])
 
     return make
 
@@ -166,6 +184,10 @@ def faults() -> Iterator[Fault]:
     yield Fault("docs/ample.py", ["loop_bind"], "tests that are none", without_tests)
     edit = changed("crates/affine_core/edits/nothing.edit", "", "file: src/lib.rt\nold: nothing\nnew: something\n", ("crates",))
     yield Fault("edits.py", ["check"], "an edit of no line", edit)
+    if shutil.which("rt"):
+        yield from wrong_bodies()
+    else:
+        print("there is no rt, so no wrong body is planted", file=sys.stderr)
     if shutil.which("chromium"):
         page = changed("tools/report.py", "<h2>Where values come from</h2><p class", "<h2>Values</h2><p class")
         yield Fault("check_report.py", ["fir"], "a page without a head", page)
@@ -227,6 +249,27 @@ def faults() -> Iterator[Fault]:
         yield Fault("hostile/fuzz.py", ["--count", "12", "--keep", KEPT], f"{command}: another text", spoiled(command, pattern, new))
 
 
+def wrong_bodies() -> Iterator[Fault]:
+    """Wrong bodies that the contracts let through, each with the test or the script that refuses it."""
+    by_network = "let run = run_by_threads(rt, alloc, &nest, &inputs, policy, gate)?;\n    Ok(Answer::Arrays"
+    told, put = "            gate.moved(process, *channel, value);\n", "            ends.put(rt, *channel, value);\n"
+    no_rows = "        let mut cells = Cells::empty(alloc);\n"
+    for crate, test, what, file, old, new in (
+        ("thread_tests", "each_process_has_a_thread", "what the threads found is thrown away",
+         "thread_runner/src/run.rt", "    if ran {\n", "    if ran && false {\n"),
+        ("thread_tests", "a_writer_fills_its_channel_and_waits", "the network of another policy is run",
+         "command_answers/src/run.rt", by_network, "let _ = policy;\n    " + by_network.replace("policy", "Policy::Seq")),
+        ("thread_tests", "a_writer_fills_its_channel_and_waits", "the gate is told after the put",
+         "node_runner/src/node.rt", told + put, put + told),
+        ("refusal_tests", "many_arrays_are_declared", "more than 256 arrays are want of memory",
+         "cell_rows/src/cells.rt", no_rows, "        if arrays.len() > 256 {\n            return Err(AllocError);\n        }\n" + no_rows),
+    ):  # fmt: skip
+        yield Fault(TESTS, [crate, test], what, changed(f"crates/{file}", old, new, ("crates",)))
+    never_less = other_program("crates/cell_rows/src/cells.rt", "        self.room = self.room.saturating_sub(grown);\n", "        let _ = grown;\n")
+    far_cells = ["--only", "size", "--share", "10/12"]
+    yield Fault("hostile/limits.py", far_cells, "rows of cells that all together have no limit", never_less)
+
+
 def without_tests(folder: Path, program: str) -> tuple[Path, str]:
     """A repository whose crates have no tests."""
     top, _ = changed("crates/net_text/src/none.txt", "", "no code\n", ("crates",))(folder, program)
@@ -243,9 +286,12 @@ def told(fault: Fault, program: str) -> tuple[int, str]:
         top, met = fault.make(Path(name), program)
         words = [f"{name}/kept" if it == KEPT else it for it in fault.words]
         environment = {**os.environ, "COMPAAN": met, "PYTHONDONTWRITEBYTECODE": "1"}
-        done = subprocess.run(
-            [top / "tools" / fault.check, *words], cwd=top, env=environment, capture_output=True, text=True, errors="replace", check=False
-        )
+        called = TESTS.split() if fault.check == TESTS else [top / "tools" / fault.check, *words]
+        place = top / "crates" / words[0] if fault.check == TESTS else top
+        done = subprocess.run(called, cwd=place, env=environment, capture_output=True, text=True, errors="replace", check=False)
+    if fault.check == TESTS:
+        failed = re.search(rf"(?m)^test (\w+::)*{words[1]} \.\.\. FAILED$(\n +.*)?", done.stdout)
+        return (1, failed[0]) if failed else (0, (done.stdout + done.stderr).strip().split("\n")[-1])
     said = [it for it in done.stdout.split("\n") if it and not it.startswith(("|", "#"))]
     return done.returncode, (said or done.stderr.strip().split("\n")[-1:] or [""])[0]
 

@@ -116,10 +116,13 @@ CARELESS = in_c((TOP / "tools" / "careless.c").read_text(encoding="utf-8"))
 CARELESS_ALONE = in_c((TOP / "tools" / "careless.c").read_text(encoding="utf-8"), "-static")
 ALWAYS_TEN = in_c("int main(void) { return 10; }\n")
 NO_MEMORY = in_c('#include <unistd.h>\nint main(void) { return write(1, "y,6,7,8\\n", 8) != 8; }\n')
-NO_STATUS = in_c(
+CALLING = (
     "#include <stdio.h>\n#include <stdlib.h>\n#include <string.h>\nint main(int n, char **w) { static char line[1 << 16]; strcpy(line, PROGRAM);"
-    ' for (int k = 1; k < n; k++) { strcat(line, " \'"); strcat(line, w[k]); strcat(line, "\'"); } system(line); return 0; }\n'
+    ' for (int k = 1; k < n; k++) { strcat(line, " \'"); strcat(line, w[k]); strcat(line, "\'"); } int status = system(line); '
 )
+NO_STATUS = in_c(CALLING + "return 0 * status; }\n")
+STATUS_99 = in_c(CALLING + "return 99 + 0 * status; }\n")
+COMPLAINING = in_c(CALLING + 'fputs("a complaint\\n", stderr); return status >> 8; }\n')
 
 
 def faults() -> Iterator[Fault]:
@@ -146,6 +149,17 @@ def faults() -> Iterator[Fault]:
     ):
         yield Fault(examples, FEW, f"{command}: {what}", spoiled(command, pattern, new))
     yield Fault(examples, [], "every status is 0", NO_STATUS)
+    for check, words in (
+        (examples, FEW),
+        ("examples/steps.py", ["--count", "5"]),
+        ("examples/sources.py", FEW),
+        ("check_c.py", ["gemm"]),
+        ("docs/check.py", ["docs/COMMANDS.md"]),
+        ("hostile/fuzz.py", ["--count", "8", "--keep", KEPT]),
+        ("hostile/limits.py", ["--only", "deep", "--quick", "--share", "5/37"]),
+    ):
+        yield Fault(check, words, "every status is 99", STATUS_99)
+        yield Fault(check, words, "a complaint besides", COMPLAINING)
     yield Fault(examples, FEW, "an example without its clocks", changed("examples/fir.clocks", "seq", "sep", ("examples",)))
     yield Fault("examples/sources.py", FEW, "deps: another writer", spoiled("deps", rb"(?m)^w 0 ", b"w 1 "))
     yield Fault("examples/steps.py", ["--count", "20"], "run: another value", spoiled("run", rb",0\n", b",1\n"))

@@ -20,10 +20,10 @@ impl Keyed for Event {
             Event::Get { channel, slot } => joined(*channel, *slot),
             Event::Fire { refs } => {
                 let mut key = 1;
-                for named in refs.as_slice() {
-                    key = match named {
+                for read in 0..refs.len() {
+                    key = match refs.at(read) {
                         Ref::Zero => joined(key, 0),
-                        Ref::Slot(slot) => joined(key, *slot),
+                        Ref::Slot(slot) => joined(key, slot),
                     };
                 }
                 key

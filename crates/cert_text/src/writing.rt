@@ -58,12 +58,12 @@ fn reference(reference: Ref) -> Word<'static>
 }
 
 /// Writes references with a space before each.
-fn write_references<W: TextWriter>(refs: &[Ref], out: &mut W)
+fn write_references<W: TextWriter>(refs: &Refs, out: &mut W)
     ensures { Wrote W.given out.old out.new
         (flat_map (λ reference. codes " " ++ ref_word reference) refs.now) }
 {
-    for slot in refs {
-        write_spaced(reference(*slot), out);
+    for read in 0..refs.len() {
+        write_spaced(reference(refs.at(read)), out);
     }
 }
 
@@ -73,7 +73,7 @@ fn write_fire<W: TextWriter>(refs: &Refs, out: &mut W)
     ensures { Wrote W.given out.old out.new (line_text (codes "f" ∷ map ref_word refs.now)) }
 {
     out.put(b"f");
-    write_references(refs.as_slice(), out);
+    write_references(refs, out);
     out.put(b"\n");
 }
 

@@ -112,12 +112,14 @@ fn digit(byte: u8) -> u32 {
 
 // Whether these are the references of a fire.
 fn are_references(refs: &Refs, names: &[u8]) -> bool {
-    let refs = refs.as_slice();
     refs.len() == names.len()
-        && refs.iter().zip(names).all(|(reference, name)| match reference {
-            Ref::Zero => *name == b'z',
-            Ref::Slot(slot) => *slot == digit(*name),
-        })
+        && names
+            .iter()
+            .enumerate()
+            .all(|(read, name)| match refs.at(read) {
+                Ref::Zero => *name == b'z',
+                Ref::Slot(slot) => slot == digit(*name),
+            })
 }
 
 fn is_event(event: &Event, word: &[u8]) -> bool {

@@ -11,7 +11,7 @@ use crate::slots::Slots;
 use crate::tag_state::empty_slots;
 use crate::verdict::Refusal;
 use channel_class::{ChannelClass, class_of};
-use net_core::{Event, Network, Ref};
+use net_core::{Event, Network, Ref, Refs};
 use plain_data::Items;
 use std::alloc::{AllocError, Global};
 
@@ -38,7 +38,7 @@ fn add_use(
 
 // Adds what the references of a fire use.
 fn add_fire(
-    refs: &[Ref],
+    refs: &Refs,
     slots: &Slots<(u32, u32)>,
     uses: &mut [Items<u32>],
 ) -> Result<(), AllocError>
@@ -48,8 +48,8 @@ fn add_fire(
         → slice_index_or uses.new c []
         ≡ slice_index_or uses.old c [] ++ flat_map (use_of c (slots_in slots.now)) refs.now) }
 {
-    for reference in refs {
-        add_use(*reference, slots, uses)?;
+    for read in 0..refs.len() {
+        add_use(refs.at(read), slots, uses)?;
     }
     Ok(())
 }
@@ -86,7 +86,7 @@ fn add_events(
                 slots.fill(slot, (channel, get))?;
                 gets[channel as usize] = get + 1;
             }
-            Event::Fire { refs } => add_fire(refs.as_slice(), slots, uses)?,
+            Event::Fire { refs } => add_fire(&refs, slots, uses)?,
             Event::Put { .. } => {}
         }
     }

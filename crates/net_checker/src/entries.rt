@@ -107,17 +107,17 @@ fn judge_reference(
     turn: usize,
     entry: u32,
     slots: &Slots<Tag>,
-    reference: &Ref,
+    reference: Ref,
 ) -> Option<Refusal>
     ensures { result
-        ≡ name_refusal points.now.of entry (name_of (slots_in slots.now) reference.now)
+        ≡ name_refusal points.now.of entry (name_of (slots_in slots.now) reference)
         (source_in table.now.of read turn) }
 {
     let source = source_in(table, read, turn);
-    if is_wanted(slots, *reference, source) {
+    if is_wanted(slots, reference, source) {
         return None;
     }
-    let seen = seen(points, slots, *reference);
+    let seen = seen(points, slots, reference);
     Some(Refusal::Tag(entry, seen, wanted(points, source)))
 }
 
@@ -137,10 +137,16 @@ fn judge_fire(
         (λ j. refused_reference points.now.of table.now.of first_read turn
         (slots_in slots.now) entry j (slice_get refs.now j)) (length refs.now) }
 {
-    for (read, reference) in refs.as_slice().iter().enumerate() {
+    for read in 0..refs.len() {
         let number = first_read + read;
         if let Some(refusal) = judge_reference(
-            points, table, number, turn, entry, slots, reference,
+            points,
+            table,
+            number,
+            turn,
+            entry,
+            slots,
+            refs.at(read),
         ) {
             return Some(refusal);
         }
@@ -201,9 +207,9 @@ fn names_are_wanted(
         (λ j. refused_reference points table.now.of first_read turn (slots_in slots.now) entry j
         (slice_get refs.now j)) (length refs.now) ≡ None) }
 {
-    for (read, reference) in refs.as_slice().iter().enumerate() {
+    for read in 0..refs.len() {
         let source = source_in(table, first_read + read, turn);
-        if !is_wanted(slots, *reference, source) {
+        if !is_wanted(slots, refs.at(read), source) {
             return false;
         }
     }

@@ -25,9 +25,12 @@ fn is_within(slots: u32, reference: Ref) -> bool
 fn are_within(slots: u32, refs: &Refs) -> bool
     ensures { result ≡ list_all (is_within slots) refs.now }
 {
-    refs.as_slice()
-        .iter()
-        .all(|reference| is_within(slots, *reference))
+    for read in 0..refs.len() {
+        if !is_within(slots, refs.at(read)) {
+            return false;
+        }
+    }
+    true
 }
 
 /// Whether an event, if it is a Fire, has a reference for each read, and none to a slot that isn't there.

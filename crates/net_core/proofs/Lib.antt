@@ -1,4 +1,4 @@
-pub mod ArrayPadding
+pub mod PackingLemmas
 pub mod EventCounts
 pub mod Alike
 pub mod TwoSteps

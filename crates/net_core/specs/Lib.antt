@@ -1,6 +1,6 @@
 pub mod References
 pub mod ReferenceLaws
-pub mod Padded
+pub mod Packing
 pub mod Machine
 pub mod Shape
 pub mod Cuts

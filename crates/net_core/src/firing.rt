@@ -71,8 +71,8 @@ fn read_all(alloc: Global, refs: &Refs, slots: &[Option<i64>]) -> Short<i64, 8>
     ensures { result ≡ map (read_slot slots.now) refs.now }
 {
     let mut values = Short::empty(alloc);
-    for reference in refs.as_slice() {
-        values.push(read(*reference, slots));
+    for number in 0..refs.len() {
+        values.push(read(refs.at(number), slots));
     }
     values
 }

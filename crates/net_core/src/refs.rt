@@ -1,4 +1,5 @@
-ghost use Rattle.std.specs.Prelude.{◌≡◌, ◌<◌, [], ◌∷◌, ◌++◌, length};
+ghost use Rattle.std.specs.Prelude.{◌≡◌, ◌<◌, [], ◌∷◌, ◌++◌, length, slice_get, Some};
+ghost use Rattle.net_core.specs.Packing.{ref_of, slot_bytes, zero_bit};
 
 use std::marker::Model;
 
@@ -34,27 +35,30 @@ impl Eq for Ref {
     ghost laws = { ref_equiv };
 }
 
-/// At most 8 references, one for each read, kept in place. What stands past the length is `Zero`.
+/// At most 8 references, one for each read, kept in place in 34 bytes. What stands past the length is 0.
 #[derive(Clone, Copy, Debug)]
 pub struct Refs {
-    len: usize,
-    at: [Ref; 8],
+    len: u8,
+    // A bit for each place that holds `Zero`, the lowest for the first.
+    zeros: u8,
+    // The slots by bytes, 0 for `Zero`, so that no byte is lost where an event is laid out.
+    slots: [[u8; 4]; 8],
 }
 
 impl Model for Refs {
-    ghost use Rattle.std.specs.Prelude.{List, take};
+    ghost use Rattle.std.specs.Prelude.{List};
     ghost use Rattle.net_core.specs.declared.refs.Ref.{Ref};
-    ghost use Rattle.net_core.specs.Padded.{IsPadded, padded_refs, padded_back};
+    ghost use Rattle.net_core.specs.Packing.{refs_in, inside_of, IsPacked};
 
     ghost Value = { List Ref };
 
-    ghost view = { λ refs. take refs.len refs.at };
+    ghost view = { refs_in };
 
-    ghost invariant = { λ refs. IsPadded refs.len refs.at };
+    ghost invariant = { IsPacked };
 
-    ghost inverse = { padded_refs };
+    ghost inverse = { inside_of };
 
-    ghost inverse_ok = { padded_back };
+    ghost inverse_ok = { λ refs same. same };
 }
 
 impl PartialEq for Refs {
@@ -66,7 +70,7 @@ impl PartialEq for Refs {
     ghost laws = { refs_per };
 
     fn eq(&self, other: &Refs) -> bool {
-        self.at[..self.len] == other.at[..other.len]
+        self.len == other.len && self.zeros == other.zeros && self.slots == other.slots
     }
 }
 
@@ -76,6 +80,18 @@ impl Eq for Refs {
     ghost laws = { refs_equiv };
 }
 
+// The bit and the bytes by which a reference is kept.
+fn parts_of(reference: Ref) -> (u8, [u8; 4])
+    ensures bit { result.0 ≡ zero_bit reference }
+    ensures bytes { result.1 ≡ slot_bytes reference }
+    ensures back { ref_of result.0 result.1 ≡ reference }
+{
+    match reference {
+        Ref::Zero => (1, [0; 4]),
+        Ref::Slot(slot) => (0, slot.to_le_bytes()),
+    }
+}
+
 impl Refs {
     /// No reference.
     pub fn empty() -> Refs
@@ -83,7 +99,8 @@ impl Refs {
     {
         Refs {
             len: 0,
-            at: [Ref::Zero; 8],
+            zeros: 0,
+            slots: [[0; 4]; 8],
         }
     }
 
@@ -92,7 +109,9 @@ impl Refs {
         requires { length self.old < 8 }
         ensures { self.new ≡ self.old ++ reference ∷ [] }
     {
-        self.at[self.len] = reference;
+        let (zero, bytes) = parts_of(reference);
+        self.zeros |= zero << self.len;
+        self.slots[usize::from(self.len)] = bytes;
         self.len += 1;
     }
 
@@ -100,13 +119,29 @@ impl Refs {
     pub fn len(&self) -> usize
         ensures { result ≡ length self.now }
     {
-        self.len
+        usize::from(self.len)
     }
 
-    /// The references, in the order of the reads.
-    pub fn as_slice(&self) -> &[Ref]
-        ensures { result.now ≡ self.now }
+    /// The reference of this number, in the order of the reads.
+    pub fn at(&self, number: usize) -> Ref
+        requires { number < length self.now }
+        ensures { slice_get self.now number ≡ Some result }
     {
-        &self.at[..self.len]
+        if (self.zeros >> number) & 1 == 1 {
+            Ref::Zero
+        } else {
+            Ref::Slot(u32::from_le_bytes(self.slots[number]))
+        }
+    }
+
+    /// The reference of this number, or `None` past the last.
+    pub fn get(&self, number: usize) -> Option<Ref>
+        ensures { result ≡ slice_get self.now number }
+    {
+        if number < self.len() {
+            Some(self.at(number))
+        } else {
+            None
+        }
     }
 }

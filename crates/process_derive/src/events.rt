@@ -25,10 +25,10 @@ fn key_of(event: &Event) -> u32 {
         Event::Get { channel, slot } => mixed(mixed(1, *channel), *slot),
         Event::Fire { refs } => {
             let mut key = 2;
-            for named in refs.as_slice() {
-                key = match named {
+            for read in 0..refs.len() {
+                key = match refs.at(read) {
                     Ref::Zero => mixed(key, 0),
-                    Ref::Slot(slot) => mixed(mixed(key, 1), *slot),
+                    Ref::Slot(slot) => mixed(mixed(key, 1), slot),
                 };
             }
             key

@@ -57,8 +57,8 @@ fn dst_of(event: &Event) -> u64
 fn slot_of(refs: &Refs, read: u32) -> Word<'static>
     ensures { word_text result ≡ slot_text (slice_get refs.now read) }
 {
-    match refs.as_slice().get(read as usize) {
-        Some(Ref::Slot(slot)) => Word::Number(u64::from(*slot)),
+    match refs.get(read as usize) {
+        Some(Ref::Slot(slot)) => Word::Number(u64::from(slot)),
         Some(Ref::Zero) | None => Word::Text(b"-1"),
     }
 }

@@ -2,5 +2,5 @@ use Rattle.std.proofs.Common.{◌≡◌, map, take}
 use Rattle.net_core.specs.Rules.{read_slot}
 use Rattle.net_core.proofs.firing.read_all.Given as goal
 
-abbrev pub invariant-loop-reference : goal.invariant-loop-reference
-invariant-loop-reference l = l.values ≡ map (read_slot l.slots) (take l.reference-index l.refs)
+abbrev pub invariant-loop-number : goal.invariant-loop-number
+invariant-loop-number l = l.values ≡ map (read_slot l.slots) (take l.number l.refs)

@@ -1,7 +1,11 @@
-use Rattle.net_core.specs.Padded.{pad}
-use Rattle.net_core.proofs.ArrayPadding.{IsPadded-empty}
+use Rattle.std.proofs.Common.{refl}
+use Rattle.net_core.specs.Packing.{refs_at, zeros_of, rows_of}
 use Rattle.net_core.proofs.refs.Refs.empty.Goals as goal
 
 pub invariant_of-result : goal.invariant_of-result
-unfolding pad
-invariant_of-result c = IsPadded-empty
+unfolding refs_at zeros_of rows_of
+invariant_of-result c = refl
+
+pub returns : goal.returns
+unfolding refs_at
+returns c = refl

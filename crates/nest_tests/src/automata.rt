@@ -113,13 +113,11 @@ fn digit(byte: u8) -> u32 {
 // Whether these are the references of a fire.
 fn are_references(refs: &Refs, names: &[u8]) -> bool {
     refs.len() == names.len()
-        && names
-            .iter()
-            .enumerate()
-            .all(|(read, name)| match refs.at(read) {
-                Ref::Zero => *name == b'z',
-                Ref::Slot(slot) => slot == digit(*name),
-            })
+        && names.iter().enumerate().all(|(read, name)| match refs.get(read) {
+            Some(Ref::Zero) => *name == b'z',
+            Some(Ref::Slot(slot)) => slot == digit(*name),
+            None => false,
+        })
 }
 
 fn is_event(event: &Event, word: &[u8]) -> bool {

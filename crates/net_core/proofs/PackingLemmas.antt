@@ -131,8 +131,7 @@ zeros-more a bit h lt le =
     let most : 2 ^ a.len ≤ 2 ^ 7 = pow-le-pow_right {n = 2} (omega arith) {i = a.len} {j = 7} (omega arith) in
     let product : bit * 2 ^ a.len ≤ 1 * 128 = mul-le bit (2 ^ a.len) 1 128 le most in
     let small : bit * 2 ^ a.len % 256 ≡ bit * 2 ^ a.len = mod-eq_of_lt (omega (arith, product)) in
-    let swap : bit * 2 ^ a.len + a.zeros ≡ a.zeros + bit * 2 ^ a.len = omega arith in
-    (
+    let swap : bit * 2 ^ a.len + a.zeros ≡ a.zeros + bit * 2 ^ a.len = omega arith in (
       below,
       ap (bit_or a.zeros) small ∙ or_comm a.zeros (bit * 2 ^ a.len) ∙ or_shifted bit a.len a.zeros below ∙ swap,
     )

@@ -1,4 +1,4 @@
-ghost use Rattle.std.specs.Prelude.{◌≡◌, ◌<◌, [], ◌∷◌, ◌++◌, length, slice_get, Some};
+ghost use Rattle.std.specs.Prelude.{◌≡◌, ◌<◌, [], ◌∷◌, ◌++◌, length, slice_get, slice_index_or, Some};
 ghost use Rattle.net_core.specs.Packing.{ref_of, slot_bytes, zero_bit};
 
 use std::marker::Model;
@@ -125,7 +125,8 @@ impl Refs {
     /// The reference of this number, in the order of the reads.
     pub fn at(&self, number: usize) -> Ref
         requires { number < length self.now }
-        ensures { slice_get self.now number ≡ Some result }
+        ensures item { slice_get self.now number ≡ Some result }
+        ensures value { result ≡ slice_index_or self.now number result }
     {
         if (self.zeros >> number) & 1 == 1 {
             Ref::Zero

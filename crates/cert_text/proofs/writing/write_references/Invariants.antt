@@ -5,7 +5,7 @@ use Rattle.cert_text.specs.CertText.{ref_word}
 use Rattle.cert_text.proofs.writing.write_references.Given as goal
 
 -- the references so far were written
-abbrev pub invariant-loop-slot : goal.invariant-loop-slot
-invariant-loop-slot g l =
+abbrev pub invariant-loop-read : goal.invariant-loop-read
+invariant-loop-read g l =
     Wrote g.W.TextWriter.given l.fn.out l.out
-    (flat_map (λ reference. codes " " ++ ref_word reference) (take l.slot-index l.refs))
+    (flat_map (λ reference. codes " " ++ ref_word reference) (take l.read l.refs))

@@ -1,22 +1,18 @@
-use Rattle.std.proofs.Common.{◌+◌, ap, sym, ◌∙◌, length, get_or, arith, below_more}
-use Rattle.net_core.specs.declared.refs.Ref.TheVariants.{Zero}
+use Rattle.std.proofs.Common.{◌+◌, ap, sym, ◌∙◌, arith, below_more}
 use Rattle.net_core.specs.Names.{name_of}
 use Rattle.net_checker.specs.Entries.{is_wanted}
 use Rattle.net_checker.specs.Lookups.{source_in}
 use Rattle.net_checker.proofs.FireVerdicts.{reference_judged, reference_wanted, references_fine}
-use Rattle.net_checker.proofs.Lists.{read_or}
 use Rattle.net_checker.specs.SlotRows.{slots_in}
 use Rattle.net_checker.proofs.entries.names_are_wanted.Goals as goal
 
 pub loop-read-preserved : goal.loop-read-preserved
 loop-read-preserved c = λ points entry.
     let refs = c.args.refs.now in
-    let items = c.as_slice-reference-items.result.now in
-    let r = get_or items c.loop-read.read Zero in
-    let is = read_or refs items c.loop-read.read Zero c.as_slice-reference-items.ensures (omega arith) in
+    let r = c.at.result in
     below_more _ _ (c.loop-read.invariant points entry)
     (sym (reference_judged points c.args.table.now.of
-    c.args.first_read c.args.turn (slots_in c.args.slots.now) entry refs c.loop-read.read r is)
+    c.args.first_read c.args.turn (slots_in c.args.slots.now) entry refs c.loop-read.read r c.at.ensures.item)
     ∙ reference_wanted points entry (name_of (slots_in c.args.slots.now) r)
     (source_in c.args.table.now.of (c.args.first_read + c.loop-read.read) c.args.turn)
     (ap (is_wanted (name_of (slots_in c.args.slots.now) r)) (sym c.source_in-source.ensures) ∙ sym c.is_wanted.ensures
@@ -24,6 +20,5 @@ loop-read-preserved c = λ points entry.
 
 pub returns : goal.returns
 returns c = λ points entry.
-    let many = ap length c.as_slice-reference-items.ensures in
     sym (references_fine points c.args.table.now.of c.args.first_read c.args.turn (slots_in c.args.slots.now) entry
     c.args.refs.now (λ k lt. c.loop-read.invariant points entry k (omega arith)))

@@ -1,4 +1,6 @@
-use Rattle.std.proofs.Common.{arith, []}
+use Rattle.std.proofs.Common.{arith, sym, []}
+use Rattle.std.proofs.lemmas.Option.{get_or_from_slice_get}
+use Rattle.net_core.specs.declared.refs.Ref.TheVariants.{Zero, Slot}
 use Rattle.net_core.proofs.PackingLemmas.{IsPacked-place, IsPacked-slot, IsPacked-zero}
 use Rattle.net_core.proofs.refs.Refs.at.Goals as goal
 
@@ -22,10 +24,15 @@ bounds-self-inside-number c =
 
 pub returns-then-self-number-eq1 : goal.returns-then-self-number-eq1
 returns-then-self-number-eq1 c =
+    let item =
     IsPacked-zero c.self.inside c.args.self.now c.args.number c.self.invariant c.self.view_is c.requires
-    c.if-self-number-eq1.true
+    c.if-self-number-eq1.true in
+    record { item = item; value = sym (get_or_from_slice_get c.args.self.now c.args.number Zero Zero item) }
 
 pub returns-else-self-number-eq1 : goal.returns-else-self-number-eq1
 returns-else-self-number-eq1 c =
-    IsPacked-slot c.self.inside c.args.self.now c.args.number c.from_le_bytes.result [] c.self.invariant c.self.view_is
-    c.requires c.if-self-number-eq1.false c.from_le_bytes.ensures
+    let slot = c.from_le_bytes.result in
+    let item =
+    IsPacked-slot c.self.inside c.args.self.now c.args.number slot [] c.self.invariant c.self.view_is
+    c.requires c.if-self-number-eq1.false c.from_le_bytes.ensures in
+    record { item = item; value = sym (get_or_from_slice_get c.args.self.now c.args.number (Slot slot) (Slot slot) item) }

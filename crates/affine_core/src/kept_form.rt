@@ -1,8 +1,8 @@
-ghost use Rattle.std.specs.Prelude.{◌≡◌, ◌≤◌, length, take, IfOk, IfSome};
+ghost use Rattle.std.specs.Prelude.{◌≡◌, ◌≤◌, length, take, IfOk, IfSome, Some};
 ghost use Rattle.std.specs.Result.{result_ok};
 ghost use Rattle.affine_core.specs.Affine.{form_at};
 ghost use Rattle.affine_core.specs.Kept.{IsShort, kept_form};
-ghost use Rattle.affine_core.specs.Within.{combined_in_128_bits, value_in_128_bits};
+ghost use Rattle.affine_core.specs.Within.{combined_in_128_bits, sum_in_128_bits, value_in_128_bits};
 
 use crate::form::{Form, Overflow, add_product, add_products};
 use crate::short::Coefs;
@@ -58,6 +58,19 @@ impl KeptForm {
         }
     }
 
+    /// How many coefficients the form has.
+    pub fn variables(&self) -> usize
+        ensures { result ≡ length self.now.coefs }
+    {
+        match &self.numbers {
+            Numbers::Narrow(count, _, coefs) => {
+                let coefs = &coefs[..usize::from(*count)];
+                coefs.len()
+            }
+            Numbers::Wide(numbers) => numbers.get().coefs.len(),
+        }
+    }
+
     /// The form. It takes no memory.
     pub fn get(&self) -> Form
         ensures { result ≡ self.now }
@@ -88,6 +101,79 @@ impl KeptForm {
             }
         }
     }
+
+    /// The value at these values of the variables, if no number leaves 64 bits on the way. It takes no memory.
+    pub fn eval_in_64_bits(&self, at: &[i64]) -> Option<i64>
+        ensures { IfSome result (λ value. value_in_128_bits self.now at.now ≡ Some value) }
+    {
+        match &self.numbers {
+            Numbers::Narrow(count, constant, coefs) => {
+                let coefs = &coefs[..usize::from(*count)];
+                add_narrow_in_64_bits(i64::from(*constant), coefs, at)
+            }
+            Numbers::Wide(numbers) => {
+                let numbers = numbers.get();
+                let constant = i64::try_from(numbers.constant).ok()?;
+                add_all_in_64_bits(constant, numbers.coefs.as_slice(), at)
+            }
+        }
+    }
+}
+
+/// These forms in few bytes each, or want of memory.
+pub fn kept_forms(alloc: Global, forms: &[Form]) -> Result<Items<KeptForm>, AllocError>
+    ensures { IfOk result (λ kept. kept ≡ forms.now) }
+{
+    let mut kept = Vec::with_capacity(alloc, forms.len())?;
+    for form in forms {
+        kept.push(KeptForm::of(alloc, form)?)?;
+    }
+    Ok(Items::from_vec(kept))
+}
+
+/// These forms as they were, or want of memory.
+pub fn whole_forms(alloc: Global, kept: &[KeptForm]) -> Result<Items<Form>, AllocError>
+    ensures { IfOk result (λ forms. forms ≡ kept.now) }
+{
+    let mut forms = Vec::with_capacity(alloc, kept.len())?;
+    for form in kept {
+        forms.push(form.get())?;
+    }
+    Ok(Items::from_vec(forms))
+}
+
+/// A sum with one more product, if no number leaves 64 bits. Most coefficients are 0, and add nothing.
+fn add_in_64_bits(total: i64, coef: i128, value: i64) -> Option<i64>
+    ensures { IfSome result (λ sum. sum_in_128_bits total coef value ≡ Some sum) }
+{
+    if coef == 0 {
+        return Some(total);
+    }
+    let coef = i64::try_from(coef).ok()?;
+    let product = coef.checked_mul(value)?;
+    total.checked_add(product)
+}
+
+/// A sum with the product of each coefficient and its variable's value, in order, if no number leaves 64 bits.
+fn add_all_in_64_bits(total: i64, coefs: &[i128], at: &[i64]) -> Option<i64>
+    ensures { IfSome result (λ sum. combined_in_128_bits total coefs.now at.now ≡ Some sum) }
+{
+    let (Some((coef, coefs)), Some((value, at))) = (coefs.split_first(), at.split_first()) else {
+        return Some(total);
+    };
+    let next = add_in_64_bits(total, *coef, *value)?;
+    add_all_in_64_bits(next, coefs, at)
+}
+
+/// The same of coefficients of 8 bits.
+fn add_narrow_in_64_bits(total: i64, coefs: &[i8], at: &[i64]) -> Option<i64>
+    ensures { IfSome result (λ sum. combined_in_128_bits total coefs.now at.now ≡ Some sum) }
+{
+    let (Some((coef, coefs)), Some((value, at))) = (coefs.split_first(), at.split_first()) else {
+        return Some(total);
+    };
+    let next = add_in_64_bits(total, i128::from(*coef), *value)?;
+    add_narrow_in_64_bits(next, coefs, at)
 }
 
 /// The numbers of a form in 8 bits each, where they have no more and the coefficients are at most 13.

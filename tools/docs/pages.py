@@ -5,8 +5,9 @@ usage: tools/docs/pages.py [--program]             compares each part with its p
                                                    there is one. With --program also what the built program prints
        tools/docs/pages.py [--program] --write     puts them into their pages
        tools/docs/pages.py --printed NAME FILE     puts what a script of measures printed into its page: measures of tools/bench/all.py,
-                                                   limits of sections of tools/hostile/limits.py, designs, synthesis, large and folds of
-                                                   the scripts that bear these names in tools/hardware, parts of hardware/synthesize
+                                                   flow of tools/bench/flow.py, limits of sections of tools/hostile/limits.py, designs,
+                                                   synthesis, large and folds of the scripts that bear these names in tools/hardware,
+                                                   parts of hardware/synthesize
        tools/docs/pages.py --sentences             lists the definitions whose comment lacks, or tells nothing by itself
 
 A part stands between a line `<!-- tools/docs/pages.py: NAME -->` and a line `<!-- end -->`:
@@ -21,7 +22,7 @@ meaning, soundness   files of definitions: which those are that a claim rests on
 clocks       the clocks of each example, as they stand beside its answer
 aims         what the table of measures says beside the aims
 capacities   of each example the sum of the capacities and the greatest one, by each policy and by trim: by the program
-measures, limits    tables of time and memory, which nothing compares
+measures, flow, limits     tables of time and memory, which nothing compares
 designs             of each example the sizes of its design and the clocks, which are compared with those beside its answer
 synthesis, parts, large, folds     tables of what is made of designs, which nothing compares
 
@@ -289,7 +290,10 @@ PARTS: dict[str, tuple[str, Callable[[str], str]]] = {
     "clocks": ("docs/VHDL.md", clocks),
 }
 # The tables of measures, each with its page.
-TABLES = {"measures": "docs/MEASURES.md", **dict.fromkeys(("designs", "synthesis", "parts", "large", "folds"), "docs/RTL.md")}
+TABLES = {
+    **dict.fromkeys(("measures", "flow"), "docs/MEASURES.md"),
+    **dict.fromkeys(("designs", "synthesis", "parts", "large", "folds"), "docs/RTL.md"),
+}
 # What the program prints into a page.
 BY_PROGRAM: dict[str, tuple[str, Callable[[str], str]]] = {"capacities": ("docs/NETWORK.md", capacities)}
 

@@ -1,8 +1,5 @@
-use Rattle.std.proofs.Common.{Some, List, [], ◌++◌, length, slice_get, get_or, refl, sym, ap, ◌∙◌, arith}
-use Rattle.std.specs.List.{flat_map}
+use Rattle.std.proofs.Common.{Some, length, slice_get, refl, sym, ap, ◌∙◌, arith}
 use Rattle.script_blocks.proofs.Loops.{had_all, had_more, next_item, one_longer}
-use Rattle.net_core.specs.declared.refs.Ref.{Ref}
-use Rattle.net_core.specs.Uses.{use_of}
 use Rattle.net_core.specs.Machine.{net_of}
 use Rattle.net_checker.specs.SlotRows.{slots_in}
 use Rattle.net_checker.proofs.ChannelUses.{collected_as, collected_fire, collected_get, collected_gets, collected_none}
@@ -124,9 +121,7 @@ loop-event-preserved-in-Continue-branch-2 c =
           (collected_fire net p c.args.gets.now c.args.uses.now c.loop-event.gets c.loop-event.uses
           (slots_in c.loop-event.slots) k c.loop-event.invariant.collected c.in-Fire.refs c.add_fire.new.uses is
           (omega arith)
-          (λ d lt. c.in_ok-add_fire-in-Fire.ensures d lt
-          ∙ ap (λ (xs : List Ref). get_or c.loop-event.uses d []
-          ++ flat_map (use_of d (slots_in c.loop-event.slots)) xs) c.as_slice.ensures));
+          c.in_ok-add_fire-in-Fire.ensures);
     }
 
 pub returns-clause-gets : goal.returns-clause-gets

@@ -72,6 +72,8 @@ def netlist_of(ghdl: str, files: Mapping[str, str], language: str, seconds: floa
 def netlist_text(ghdl: str, files: Mapping[str, str], seconds: float | None = None) -> str:
     """The netlist as VHDL that can be simulated."""
     netlist = netlist_of(ghdl, files, "vhdl", seconds)
+    # GHDL 2 puts a word before a port's name, and where that stands between backslashes before the first of them
+    netlist = re.sub(r"\b((?:typ)?wrap_)\\([^\\\n]*)\\", r"\\\1\2\\", netlist)
     # A netlist computes at all times, also where the node doesn't look at what comes of it. There an array may be read behind its end,
     # where hardware shows anything and GHDL would break off, and slots without a value may be compared.
     place = r"<= (\w+)\(to_integer \(unsigned \((\w+)\)\)\);"
@@ -98,6 +100,8 @@ def resimulated(ghdl: str, runs: Sequence[Mapping[str, str]], seconds: float | N
 def verilog_of(ghdl: str, files: Mapping[str, str], seconds: float | None = None) -> str:
     """The netlist as Verilog that yosys reads."""
     netlist = netlist_of(ghdl, files, "verilog", seconds)
+    # a name between backslashes as in VHDL, which in Verilog ends with a space
+    netlist = re.sub(r"\\(\w+)\\", r"\\\1 ", netlist)
     # the constant operand of a product: GHDL 2 writes it as a string, and GHDL takes a bit of it, which Verilog doesn't know
     netlist = re.sub(r'"([01]+)"', lambda part: f"{len(part[1])}'b{part[1]}", netlist)
     return re.sub(r"\d+'b([01]+)\[(\d+)\]", lambda part: "1'b" + part[1][-1 - int(part[2])], netlist)

@@ -2,13 +2,15 @@
 --
 -- The roles of the units are those of the nest's statements: the sources of the arrays that are given, assignments, and the sinks
 -- of the arrays that are printed. So the names of the ports between the fixed ones come array by array, three for each source,
--- and behind them three for each sink; where an array has both, the sink's have another ending. A key is an array's name with an
--- ending, and its port's name tells it (`told`), so that names differ where keys do; and keys differ since the names of a nest's
--- arrays do. Each name is longer than a fixed one. Of the signals of the network's architecture nothing is said here.
-use Rattle.std.proofs.Common.{◌≡◌, ◌≢◌, ◌+◌, ◌≤◌, ℕ, zero, suc, Bool, true, false, cond, Option, Some, List, [], ◌∷◌, ◌++◌}
+-- and behind them three for each sink; where an array has both, the sink's have another ending. A key is the stem of an array's
+-- name with an ending, and its port's name tells it (`told`), so that names differ where keys do; and keys differ since the stems
+-- of a nest's arrays do. Each name has an underscore, and no fixed one has. Of the signals of the network's architecture nothing is
+-- said here.
+use Rattle.std.proofs.Common.{◌≡◌, ◌≢◌, ◌+◌, ℕ, zero, suc, Bool, true, false, cond, Option, Some, List, [], ◌∷◌, ◌++◌}
 use Rattle.std.proofs.Common.{codes, get_or, map, length, replicate, slice_get, refl, sym, ap, ap₂, ◌∙◌, append_assoc, arith}
 use Rattle.std.specs.List.{AllZip, enumerate_from, flat_map, join_by}
 use Rattle.std.specs.Option.{option_map_or}
+use Rattle.std.proofs.lemmas.Bool.{false≢true}
 use Rattle.std.proofs.lemmas.Grind.{flat_map-append}
 use Rattle.std.proofs.lemmas.List.{length-append, map-append}
 use Rattle.std.proofs.lemmas.List.Folds.{flat_map-map}
@@ -32,12 +34,13 @@ use Rattle.unit_text.specs.Units.{IsUnitOf}
 use Rattle.unit_text.proofs.Ports.{flat_map_of_flat_map, join_last}
 use Rattle.rtl_text.specs.declared.network.UnitPart.TheVariants as units
 use Rattle.rtl_text.specs.Designs.{AreUnitsOf}
-use Rattle.rtl_text.specs.Names.{as_read}
+use Rattle.rtl_text.specs.Names.{as_read, is_bare}
 use Rattle.rtl_text.specs.Networks.{for_units, network_entity}
 use Rattle.rtl_text.specs.Ports.{array_ports, network_ports, outer_ports, port_lines}
 use Rattle.rtl_text.proofs.Differences.{Apart, Differ, Each, differ_append, differ_from, differ_map, differ_to, each_append}
 use Rattle.rtl_text.proofs.Differences.{keys_apart, keys_differ}
-use Rattle.rtl_text.proofs.PortNames.{Ending, named, named_long, read_same, ready, ready_out, told, valid, valid_out, value, value_out}
+use Rattle.rtl_text.proofs.PortNames.{Ending, has_underscore, named, named_has, read_same, ready, ready_out, stem_of, stems_differ, text, told}
+use Rattle.rtl_text.proofs.PortNames.{valid, valid_out, value, value_out}
 
 -- The entity
 
@@ -98,14 +101,14 @@ sink_keys_of m Output = three m value valid ready
 sink_keys_of m Both = three m value_out valid_out ready_out
 sink_keys_of m Var = []
 
-abbrev pub source_keys : ArrayDecl → List Key
-source_keys array = source_keys_of array.name array.kind
+abbrev pub source_keys : Nest → ArrayDecl → List Key
+source_keys nest array = source_keys_of (stem_of nest array.name) array.kind
 
-abbrev pub sink_keys : ArrayDecl → List Key
-sink_keys array = sink_keys_of array.name array.kind
+abbrev pub sink_keys : Nest → ArrayDecl → List Key
+sink_keys nest array = sink_keys_of (stem_of nest array.name) array.kind
 
-abbrev pub keys : List ArrayDecl → List Key
-keys arrays = flat_map source_keys arrays ++ flat_map sink_keys arrays
+abbrev pub keys : Nest → List Key
+keys nest = flat_map (source_keys nest) nest.arrays ++ flat_map (sink_keys nest) nest.arrays
 
 key_told : (k l : Key) → key_name k ≡ key_name l → k ≡ l
 key_told k l e =
@@ -165,28 +168,33 @@ own_apart m Both = (
 own_apart m Var = tt
 
 -- of all of them
-module _ (arrays : List ArrayDecl) (names : Differ (map (λ array. array.name) arrays)) where
-  all_keys_differ : Differ (keys arrays)
+module _ (nest : Nest) (names : Differ (map (λ array. array.name) nest.arrays)) where
+  abbrev stem_at : ArrayDecl → List ℕ
+  stem_at array = stem_of nest array.name
+
+  all_keys_differ : Differ (keys nest)
   all_keys_differ =
-      differ_append (flat_map source_keys arrays) (flat_map sink_keys arrays)
-      (keys_differ (λ (array : ArrayDecl). array.name) (λ (k : Key). k.0) source_keys
-      (λ array. source_named array.name array.kind) (λ array. source_differ array.name array.kind) arrays names)
-      (keys_differ (λ (array : ArrayDecl). array.name) (λ (k : Key). k.0) sink_keys
-      (λ array. sink_named array.name array.kind) (λ array. sink_differ array.name array.kind) arrays names)
-      (keys_apart (λ (array : ArrayDecl). array.name) (λ (k : Key). k.0) source_keys sink_keys
-      (λ array. source_named array.name array.kind) (λ array. sink_named array.name array.kind)
-      (λ array. own_apart array.name array.kind) arrays names)
+      let stems = stems_differ nest names in
+      differ_append (flat_map (source_keys nest) nest.arrays) (flat_map (sink_keys nest) nest.arrays)
+      (keys_differ stem_at (λ (k : Key). k.0) (source_keys nest)
+      (λ array. source_named (stem_at array) array.kind) (λ array. source_differ (stem_at array) array.kind) nest.arrays stems)
+      (keys_differ stem_at (λ (k : Key). k.0) (sink_keys nest)
+      (λ array. sink_named (stem_at array) array.kind) (λ array. sink_differ (stem_at array) array.kind) nest.arrays stems)
+      (keys_apart stem_at (λ (k : Key). k.0) (source_keys nest) (sink_keys nest)
+      (λ array. source_named (stem_at array) array.kind) (λ array. sink_named (stem_at array) array.kind)
+      (λ array. own_apart (stem_at array) array.kind) nest.arrays stems)
 
--- a port is longer than each fixed name
-short_apart : (word : List ℕ) → length word ≤ 5 → (ks : List Key) → Apart word (map key_name ks)
-short_apart word short [] = tt
-short_apart word short (k ∷ ks) =
-    ((λ e. absurd (omega (arith, named_long k.0 k.1, short, ap length e))), short_apart word short ks)
+-- a port has an underscore, and no fixed name has
+other_key : (word : List ℕ) → has_underscore word ≡ false → (k : Key) → word ≢ key_name k
+other_key word none k = λ e. false≢true (sym none ∙ ap has_underscore e ∙ named_has k.0 k.1)
 
-short_behind : (word : List ℕ) → length word ≤ 5 → (ks : List Key) → Each (λ name. Apart name (word ∷ [])) (map key_name ks)
-short_behind word short [] = tt
-short_behind word short (k ∷ ks) =
-    (((λ e. absurd (omega (arith, named_long k.0 k.1, short, ap length e))), tt), short_behind word short ks)
+word_apart : (word : List ℕ) → has_underscore word ≡ false → (ks : List Key) → Apart word (map key_name ks)
+word_apart word none [] = tt
+word_apart word none (k ∷ ks) = (other_key word none k, word_apart word none ks)
+
+word_behind : (word : List ℕ) → has_underscore word ≡ false → (ks : List Key) → Each (λ name. Apart name (word ∷ [])) (map key_name ks)
+word_behind word none [] = tt
+word_behind word none (k ∷ ks) = (((λ e. other_key word none k (sym e)), tt), word_behind word none ks)
 
 apart_end : (word other : List ℕ) → word ≢ other → (names : List (List ℕ)) → Apart word names → Apart word (names ++ other ∷ [])
 apart_end word other ne names apart = each_append (λ name. word ≢ name) names (other ∷ []) apart (ne, tt)
@@ -218,13 +226,13 @@ again_done = other_word 97 100 (codes "gain") (codes "one") (λ e. omega (arith,
 fixed_differ : (ks : List Key) → Differ ks → Differ (with_fixed (map key_name ks))
 fixed_differ ks d =
     let names = map key_name ks in (
-      (clk_rst, (clk_again, apart_end (codes "clk") (codes "done") clk_done names (short_apart (codes "clk") (omega arith) ks))),
+      (clk_rst, (clk_again, apart_end (codes "clk") (codes "done") clk_done names (word_apart (codes "clk") refl ks))),
       (
-        (rst_again, apart_end (codes "rst") (codes "done") rst_done names (short_apart (codes "rst") (omega arith) ks)),
+        (rst_again, apart_end (codes "rst") (codes "done") rst_done names (word_apart (codes "rst") refl ks)),
         (
-          apart_end (codes "again") (codes "done") again_done names (short_apart (codes "again") (omega arith) ks),
+          apart_end (codes "again") (codes "done") again_done names (word_apart (codes "again") refl ks),
           differ_append names (codes "done" ∷ []) (differ_map key_name key_told ks d) (tt, tt)
-              (short_behind (codes "done") (omega arith) ks),
+              (word_behind (codes "done") refl ks),
         ),
       ),
     )
@@ -234,37 +242,44 @@ fixed_differ ks d =
 abbrev read_name : List ℕ × List ℕ → List ℕ
 read_name port = as_read port.0
 
--- the names of a role's ports, by what the number of its array stands for
-abbrev source_names : Option ArrayDecl → List (List ℕ)
-source_names found =
-    map read_name (array_ports (option_map_or (λ declared. declared.name) found []) [] word_in bit_in bit_out)
+module _ (nest : Nest) where
+  -- the names of a role's ports, by what the number of its array stands for
+  abbrev source_names : Option ArrayDecl → List (List ℕ)
+  source_names found =
+      map read_name (array_ports nest (option_map_or (λ declared. declared.name) found []) [] word_in bit_in bit_out)
 
-abbrev sink_names : Option ArrayDecl → List (List ℕ)
-sink_names found =
-    map read_name (array_ports (option_map_or (λ declared. declared.name) found [])
-    (option_map_or (λ declared. cond (is_input declared.kind) (codes "_out") []) found []) word_out bit_out bit_in)
+  abbrev sink_names : Option ArrayDecl → List (List ℕ)
+  sink_names found =
+      map read_name (array_ports nest (option_map_or (λ declared. declared.name) found [])
+      (option_map_or (λ declared. cond (is_input declared.kind) (codes "_out") []) found []) word_out bit_out bit_in)
 
-three_same : (m : List ℕ) (a b c : Ending)
-    → as_read (named m a) ∷ as_read (named m b) ∷ as_read (named m c) ∷ [] ≡ named m a ∷ named m b ∷ named m c ∷ []
-three_same m a b c =
-    ap₂ (λ (x : List ℕ) (ys : List (List ℕ)). x ∷ ys) (read_same m a)
-    (ap₂ (λ (x y : List ℕ). x ∷ y ∷ []) (read_same m b) (read_same m c))
+  -- a port's name by its array's and its ending
+  abbrev written : List ℕ → Ending → List ℕ
+  written m s = cond (is_bare nest m) (m ++ text s) (92 ∷ (m ++ (text s ++ 92 ∷ [])))
 
-source_at : (m : List ℕ) (kind : Kind)
-    → cond (is_input kind) (map read_name (array_ports m [] word_in bit_in bit_out)) [] ≡ map key_name (source_keys_of m kind)
-source_at m Input = three_same m value valid ready
-source_at m Output = refl
-source_at m Both = three_same m value valid ready
-source_at m Var = refl
+  three_same : (m : List ℕ) (a b c : Ending)
+      → as_read (written m a) ∷ as_read (written m b) ∷ as_read (written m c) ∷ []
+      ≡ named (stem_of nest m) a ∷ named (stem_of nest m) b ∷ named (stem_of nest m) c ∷ []
+  three_same m a b c =
+      ap₂ (λ (x : List ℕ) (ys : List (List ℕ)). x ∷ ys) (read_same nest m a)
+      (ap₂ (λ (x y : List ℕ). x ∷ y ∷ []) (read_same nest m b) (read_same nest m c))
 
-sink_at : (m : List ℕ) (kind : Kind)
-    → cond (is_output kind)
-    (map read_name (array_ports m (cond (is_input kind) (codes "_out") []) word_out bit_out bit_in)) []
-    ≡ map key_name (sink_keys_of m kind)
-sink_at m Input = refl
-sink_at m Output = three_same m value valid ready
-sink_at m Both = three_same m value_out valid_out ready_out
-sink_at m Var = refl
+  source_at : (m : List ℕ) (kind : Kind)
+      → cond (is_input kind) (map read_name (array_ports nest m [] word_in bit_in bit_out)) []
+      ≡ map key_name (source_keys_of (stem_of nest m) kind)
+  source_at m Input = three_same m value valid ready
+  source_at m Output = refl
+  source_at m Both = three_same m value valid ready
+  source_at m Var = refl
+
+  sink_at : (m : List ℕ) (kind : Kind)
+      → cond (is_output kind)
+      (map read_name (array_ports nest m (cond (is_input kind) (codes "_out") []) word_out bit_out bit_in)) []
+      ≡ map key_name (sink_keys_of (stem_of nest m) kind)
+  sink_at m Input = refl
+  sink_at m Output = three_same m value valid ready
+  sink_at m Both = three_same m value_out valid_out ready_out
+  sink_at m Var = refl
 
 -- what the numbers of the arrays that pass stand for, array by array
 module _ (passes : ArrayDecl → Bool) (f : Option ArrayDecl → List (List ℕ)) where
@@ -309,26 +324,26 @@ module _ (nest : Nest) where
   role_names role = map read_name (outer_ports nest role)
 
   -- role by role, the names of the ports are those of the keys
-  roles_have_keys : (assigns : ℕ) → flat_map role_names (roles_of nest.arrays assigns) ≡ map key_name (keys nest.arrays)
+  roles_have_keys : (assigns : ℕ) → flat_map role_names (roles_of nest.arrays assigns) ≡ map key_name (keys nest)
   roles_have_keys assigns =
-      let sources : flat_map role_names (map Source (input_numbers nest.arrays)) ≡ map key_name (flat_map source_keys nest.arrays) =
+      let sources : flat_map role_names (map Source (input_numbers nest.arrays)) ≡ map key_name (flat_map (source_keys nest) nest.arrays) =
       flat_map-map role_names Source (input_numbers nest.arrays)
-      ∙ numbers_stand_for (λ array. is_input array.kind) source_names [] nest.arrays
-      ∙ flat_map_same (λ (array : ArrayDecl). cond (is_input array.kind) (source_names (Some array)) [])
-      (λ array. map key_name (source_keys array)) (λ array. source_at array.name array.kind) nest.arrays
-      ∙ sym (map_of_flat_map key_name source_keys nest.arrays) in
-      let sinks : flat_map role_names (map Sink (output_numbers nest.arrays)) ≡ map key_name (flat_map sink_keys nest.arrays) =
+      ∙ numbers_stand_for (λ array. is_input array.kind) (source_names nest) [] nest.arrays
+      ∙ flat_map_same (λ (array : ArrayDecl). cond (is_input array.kind) (source_names nest (Some array)) [])
+      (λ array. map key_name (source_keys nest array)) (λ array. source_at nest array.name array.kind) nest.arrays
+      ∙ sym (map_of_flat_map key_name (source_keys nest) nest.arrays) in
+      let sinks : flat_map role_names (map Sink (output_numbers nest.arrays)) ≡ map key_name (flat_map (sink_keys nest) nest.arrays) =
       flat_map-map role_names Sink (output_numbers nest.arrays)
-      ∙ numbers_stand_for (λ array. is_output array.kind) sink_names [] nest.arrays
-      ∙ flat_map_same (λ (array : ArrayDecl). cond (is_output array.kind) (sink_names (Some array)) [])
-      (λ array. map key_name (sink_keys array)) (λ array. sink_at array.name array.kind) nest.arrays
-      ∙ sym (map_of_flat_map key_name sink_keys nest.arrays) in
+      ∙ numbers_stand_for (λ array. is_output array.kind) (sink_names nest) [] nest.arrays
+      ∙ flat_map_same (λ (array : ArrayDecl). cond (is_output array.kind) (sink_names nest (Some array)) [])
+      (λ array. map key_name (sink_keys nest array)) (λ array. sink_at nest array.name array.kind) nest.arrays
+      ∙ sym (map_of_flat_map key_name (sink_keys nest) nest.arrays) in
       flat_map-append role_names (map Source (input_numbers nest.arrays))
       (replicate assigns Assign ++ map Sink (output_numbers nest.arrays))
       ∙ ap₂ (λ (a b : List (List ℕ)). a ++ b) sources
       (flat_map-append role_names (replicate assigns Assign) (map Sink (output_numbers nest.arrays))
       ∙ ap₂ (λ (a b : List (List ℕ)). a ++ b) (none_of role_names Assign refl assigns) sinks)
-      ∙ sym (map-append key_name (flat_map source_keys nest.arrays) (flat_map sink_keys nest.arrays))
+      ∙ sym (map-append key_name (flat_map (source_keys nest) nest.arrays) (flat_map (sink_keys nest) nest.arrays))
 
   module _ (network : Network) where
     abbrev made : ℕ → List Statement → List NodeAuto
@@ -346,9 +361,9 @@ module _ (nest : Nest) where
         (roles_from (k + 1) statements all are.1)
 
     pub ports_have_keys : (all : List Unit) → AreUnitsOf nest network all
-        → map read_name (network_ports nest all) ≡ with_fixed (map key_name (keys nest.arrays))
+        → map read_name (network_ports nest all) ≡ with_fixed (map key_name (keys nest))
     ports_have_keys all are =
-        let outer : map read_name (flat_map (λ (unit : Unit). outer_ports nest unit.auto.role) all) ≡ map key_name (keys nest.arrays) =
+        let outer : map read_name (flat_map (λ (unit : Unit). outer_ports nest unit.auto.role) all) ≡ map key_name (keys nest) =
         map_of_flat_map read_name (λ (unit : Unit). outer_ports nest unit.auto.role) all
         ∙ sym (flat_map-map role_names (λ (unit : Unit). unit.auto.role) all)
         ∙ ap (flat_map role_names) (roles_from 0 nest.statements all are ∙ nest.well_formed.roles_in_order)
@@ -361,5 +376,5 @@ module _ (nest : Nest) where
         → all_differ (map (λ port. as_read port.0) (network_ports nest all)) ≡ true
     port_names_differ all are =
         ap all_differ (ports_have_keys all are)
-        ∙ differ_to (with_fixed (map key_name (keys nest.arrays))) (fixed_differ (keys nest.arrays)
-        (all_keys_differ nest.arrays (differ_from _ nest.well_formed.names_differ)))
+        ∙ differ_to (with_fixed (map key_name (keys nest))) (fixed_differ (keys nest)
+        (all_keys_differ nest (differ_from _ nest.well_formed.names_differ)))

@@ -3,8 +3,8 @@
 -- The last byte tells it: that of a text with something behind it is that of what is behind it. A number in decimal has digits
 -- alone, and each ending of a port has a letter last or, between backslashes, a backslash; so has each fixed name. What stands
 -- before the number doesn't matter, so this is said of names that the network has not, too.
-use Rattle.std.proofs.Common.{◌≡◌, ◌≢◌, ◌+◌, ◌<◌, ◌≤◌, ◌^◌, ◌∙◌, ℕ, zero, suc, Bool, true, false, cond, List, [], ◌∷◌, ◌++◌}
-use Rattle.std.proofs.Common.{All, codes, decimal, length, map, slice_index_or, refl, sym, ap, subst, arith}
+use Rattle.std.proofs.Common.{◌≡◌, ◌≢◌, ◌<◌, ◌≤◌, ◌^◌, ◌∙◌, ℕ, zero, suc, Bool, true, false, cond, List, [], ◌∷◌, ◌++◌}
+use Rattle.std.proofs.Common.{All, codes, decimal, eqb, get_or, length, map, slice_index_or, refl, sym, ap, subst, arith}
 use Rattle.std.specs.Char.{digit_value}
 use Rattle.std.specs.Str.Parse.{AllDigits}
 use Rattle.std.proofs.lemmas.Fmt.{decimal_is_IsNumeral}
@@ -12,7 +12,7 @@ use Rattle.sanlp.specs.declared.nest.Nest.{Nest}
 use Rattle.net_core.specs.declared.network.Network.{Network}
 use Rattle.unit_text.specs.declared.unit.Unit.{Unit}
 use Rattle.rtl_text.specs.Designs.{AreUnitsOf}
-use Rattle.rtl_text.specs.Names.{as_read, is_plain}
+use Rattle.rtl_text.specs.Names.{as_read}
 use Rattle.rtl_text.specs.Ports.{network_ports}
 use Rattle.rtl_text.proofs.Differences.{Each, each_append, each_of_map}
 use Rattle.rtl_text.proofs.NetworkPorts.{Key, key_name, keys, ports_have_keys, with_fixed}
@@ -51,21 +51,21 @@ no_digit : (xs : List ℕ) (y : ℕ) (ys : List ℕ) (k : ℕ) → digit_value (
     → 10 ≤ digit_value (last (xs ++ y ∷ ys))
 no_digit xs y ys k is le = subst (λ (d : ℕ). 10 ≤ d) (sym (ap digit_value (last_behind xs y ys) ∙ is)) le
 
-ends_by : (m : List ℕ) (s : Ending) (b : Bool)
-    → 10 ≤ digit_value (last (cond b (m ++ text s) (92 ∷ (m ++ (text s ++ 92 ∷ [])))))
+ends_by : (p : List ℕ) (s : Ending) (b : Bool)
+    → 10 ≤ digit_value (last (cond b (p ++ (text s ++ 92 ∷ [])) (p ++ text s)))
 unfolding last
-ends_by m value true = no_digit m 95 (codes "data") 10 refl (omega arith)
-ends_by m valid true = no_digit m 95 (codes "valid") 13 refl (omega arith)
-ends_by m ready true = no_digit m 95 (codes "ready") 34 refl (omega arith)
-ends_by m value_out true = no_digit m 95 (codes "data_out") 29 refl (omega arith)
-ends_by m valid_out true = no_digit m 95 (codes "valid_out") 29 refl (omega arith)
-ends_by m ready_out true = no_digit m 95 (codes "ready_out") 29 refl (omega arith)
-ends_by m value false = no_digit (92 ∷ m) 95 (codes "data\\") 36 refl (omega arith)
-ends_by m valid false = no_digit (92 ∷ m) 95 (codes "valid\\") 36 refl (omega arith)
-ends_by m ready false = no_digit (92 ∷ m) 95 (codes "ready\\") 36 refl (omega arith)
-ends_by m value_out false = no_digit (92 ∷ m) 95 (codes "data_out\\") 36 refl (omega arith)
-ends_by m valid_out false = no_digit (92 ∷ m) 95 (codes "valid_out\\") 36 refl (omega arith)
-ends_by m ready_out false = no_digit (92 ∷ m) 95 (codes "ready_out\\") 36 refl (omega arith)
+ends_by p value true = no_digit p 95 (codes "data\\") 36 refl (omega arith)
+ends_by p valid true = no_digit p 95 (codes "valid\\") 36 refl (omega arith)
+ends_by p ready true = no_digit p 95 (codes "ready\\") 36 refl (omega arith)
+ends_by p value_out true = no_digit p 95 (codes "data_out\\") 36 refl (omega arith)
+ends_by p valid_out true = no_digit p 95 (codes "valid_out\\") 36 refl (omega arith)
+ends_by p ready_out true = no_digit p 95 (codes "ready_out\\") 36 refl (omega arith)
+ends_by p value false = no_digit p 95 (codes "data") 10 refl (omega arith)
+ends_by p valid false = no_digit p 95 (codes "valid") 13 refl (omega arith)
+ends_by p ready false = no_digit p 95 (codes "ready") 34 refl (omega arith)
+ends_by p value_out false = no_digit p 95 (codes "data_out") 29 refl (omega arith)
+ends_by p valid_out false = no_digit p 95 (codes "valid_out") 29 refl (omega arith)
+ends_by p ready_out false = no_digit p 95 (codes "ready_out") 29 refl (omega arith)
 
 -- The ports
 
@@ -78,7 +78,7 @@ module _ (word : List ℕ) (n : ℕ) (small : n < 2 ^ 64) where
 
   keys_other : (ks : List Key) → Each Other (map key_name ks)
   keys_other [] = tt
-  keys_other (k ∷ ks) = (other (key_name k) (ends_by k.0 k.1 (is_plain k.0)), keys_other ks)
+  keys_other (k ∷ ks) = (other (key_name k) (ends_by k.0 k.1 (eqb (get_or k.0 0 0) 92)), keys_other ks)
 
   fixed_other : (ks : List Key) → Each Other (with_fixed (map key_name ks))
   unfolding last
@@ -107,4 +107,4 @@ no_port_is_numbered nest network units are word n small =
     (each_of_map (λ (port : List ℕ × List ℕ). as_read port.0) (λ (name : List ℕ). name ≢ word ++ decimal n)
     (network_ports nest units)
     (subst (λ (names : List (List ℕ)). Each (λ (name : List ℕ). name ≢ word ++ decimal n) names)
-    (sym (ports_have_keys nest network units are)) (fixed_other word n small (keys nest.arrays))))
+    (sym (ports_have_keys nest network units are)) (fixed_other word n small (keys nest))))

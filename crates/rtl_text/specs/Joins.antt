@@ -13,18 +13,19 @@ abbrev pub same : List ℕ → List ℕ × List ℕ
 same name = (name, name)
 
 -- the ports of a role with those of an array
-abbrev pub array_joins : (value valid ready array way : List ℕ) → List (List ℕ × List ℕ)
-array_joins value valid ready array way =
-    (value, port_name array (codes "data") way) ∷ (valid, port_name array (codes "valid") way)
-    ∷ (ready, port_name array (codes "ready") way) ∷ []
+abbrev pub array_joins : Nest → (value valid ready array way : List ℕ) → List (List ℕ × List ℕ)
+array_joins nest value valid ready array way =
+    (value, port_name nest array (codes "data") way)
+    ∷ (valid, port_name nest array (codes "valid") way)
+    ∷ (ready, port_name nest array (codes "ready") way) ∷ []
 
 abbrev pub role_joins_of : Nest → Role → List (List ℕ × List ℕ)
 role_joins_of nest (role.Source array) =
-    array_joins (codes "given") (codes "given_valid") (codes "given_ready")
+    array_joins nest (codes "given") (codes "given_valid") (codes "given_ready")
     (array_name nest array) []
 role_joins_of nest role.Assign = []
 role_joins_of nest (role.Sink array) =
-    array_joins (codes "result") (codes "result_valid") (codes "result_ready")
+    array_joins nest (codes "result") (codes "result_valid") (codes "result_ready")
     (array_name nest array) (way_out nest array)
 
 -- a port of channel c with the network's signal of it

@@ -1,13 +1,18 @@
 -- The names of the network's ports, by those of the arrays.
-use Rattle.std.specs.Prelude.{ℕ, ◌+◌, ◌==◌, ◌&&◌, ◌||◌, nat_le, Bool, false, not, if◌then◌else◌, List, [], ◌∷◌, codes, map, slice_get}
-use Rattle.std.specs.List.{concat}
+use Rattle.std.specs.Prelude.{ℕ, ◌==◌, ◌&&◌, ◌||◌, nat_le, Bool, false, not, if◌then◌else◌, List, [], ◌∷◌, codes, map, slice_get}
+use Rattle.std.specs.Char.{to_ascii_lowercase}
+use Rattle.std.specs.List.{concat, list_any}
 use Rattle.std.specs.Option.{option_map_or}
+use Rattle.std.specs.Str.{bytes_eq, str_eq_ignore_ascii_case}
 use Rattle.sanlp.specs.Cells.{is_input}
 use Rattle.sanlp.specs.declared.nest.Nest.{Nest}
 
--- a lower-case letter, a digit
+-- a letter in lower case, one in any, and a digit
+abbrev pub is_lower_case : ℕ → Bool
+is_lower_case byte = nat_le 97 byte && nat_le byte 122
+
 abbrev pub is_letter : ℕ → Bool
-is_letter byte = nat_le 97 byte && nat_le byte 122
+is_letter byte = is_lower_case (to_ascii_lowercase byte)
 
 abbrev pub is_digit : ℕ → Bool
 is_digit byte = nat_le 48 byte && nat_le byte 57
@@ -21,16 +26,28 @@ abbrev pub goes_on : Bool → List ℕ → Bool
 goes_on behind [] = not behind
 goes_on behind (byte ∷ name) = may_follow behind byte && goes_on (byte == 95) name
 
--- A name that VHDL takes as it is, in whatever case it is read: lower-case letters, digits, and single underscores between two
--- of these, with a letter in front.
+-- A name that VHDL takes as it is: letters, digits, and single underscores between two of these, with a letter in front.
 abbrev pub is_plain : List ℕ → Bool
 is_plain [] = false
 is_plain (byte ∷ name) = is_letter byte && goes_on false name
 
--- a port of an array: by its name, between backslashes where that isn't plain
-abbrev pub port_name : List ℕ → List ℕ → List ℕ → List ℕ
-port_name array part way =
-    if is_plain array then concat (array ∷ codes "_" ∷ part ∷ way ∷ [])
+-- whether two names differ in the case of their letters alone
+abbrev pub differ_in_case : List ℕ → List ℕ → Bool
+differ_in_case name other = str_eq_ignore_ascii_case name other && not (bytes_eq name other)
+
+-- whether another array's name differs from this one in case alone
+abbrev pub has_namesake : Nest → List ℕ → Bool
+has_namesake nest name = list_any (λ array. differ_in_case name array.name) nest.arrays
+
+-- Whether an array's name stands as it is in those of its ports. VHDL doesn't look at the case of its letters then, so that no
+-- other array may have the same name in another case.
+abbrev pub is_bare : Nest → List ℕ → Bool
+is_bare nest name = is_plain name && not (has_namesake nest name)
+
+-- a port of an array: by its name, between backslashes where that can't stand as it is
+abbrev pub port_name : Nest → List ℕ → List ℕ → List ℕ → List ℕ
+port_name nest array part way =
+    if is_bare nest array then concat (array ∷ codes "_" ∷ part ∷ way ∷ [])
     else concat (codes "\\" ∷ array ∷ codes "_" ∷ part ∷ way ∷ codes "\\" ∷ [])
 
 -- the name of the array of this number
@@ -44,9 +61,6 @@ way_out nest array =
     (slice_get nest.arrays array) []
 
 -- a name as VHDL reads it: in lower case, unless it stands between backslashes
-abbrev pub lower : ℕ → ℕ
-lower byte = if nat_le 65 byte && nat_le byte 90 then byte + 32 else byte
-
 abbrev pub as_read : List ℕ → List ℕ
 as_read [] = []
-as_read (byte ∷ name) = if byte == 92 then byte ∷ name else map lower (byte ∷ name)
+as_read (byte ∷ name) = if byte == 92 then byte ∷ name else map to_ascii_lowercase (byte ∷ name)

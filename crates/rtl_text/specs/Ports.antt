@@ -9,18 +9,19 @@ use Rattle.unit_text.specs.Ports.{bit_in, bit_out, port_line, word_in, word_out}
 use Rattle.rtl_text.specs.Names.{array_name, port_name, way_out}
 
 -- the ports of an array: its data, that it is there, and that it is taken
-abbrev pub array_ports : (array way value valid ready : List ℕ) → List (List ℕ × List ℕ)
-array_ports array way value valid ready =
-    (port_name array (codes "data") way, value) ∷ (port_name array (codes "valid") way, valid)
-    ∷ (port_name array (codes "ready") way, ready) ∷ []
+abbrev pub array_ports : Nest → (array way value valid ready : List ℕ) → List (List ℕ × List ℕ)
+array_ports nest array way value valid ready =
+    (port_name nest array (codes "data") way, value)
+    ∷ (port_name nest array (codes "valid") way, valid)
+    ∷ (port_name nest array (codes "ready") way, ready) ∷ []
 
 -- the values of a source come in, and those of a sink go out
 abbrev pub outer_ports : Nest → Role → List (List ℕ × List ℕ)
 outer_ports nest (role.Source array) =
-    array_ports (array_name nest array) [] word_in bit_in bit_out
+    array_ports nest (array_name nest array) [] word_in bit_in bit_out
 outer_ports nest role.Assign = []
 outer_ports nest (role.Sink array) =
-    array_ports (array_name nest array) (way_out nest array) word_out bit_out bit_in
+    array_ports nest (array_name nest array) (way_out nest array) word_out bit_out bit_in
 
 -- the ports of the network's entity, in order: the fixed ones round those of the roles of its processes
 abbrev pub network_ports : Nest → List Unit → List (List ℕ × List ℕ)

@@ -37,8 +37,8 @@ pub fn units_make_a_design()
 {}
 
 /// The network's entity has these ports and no others, and no two of them have one name, in whatever case VHDL reads it: those of
-/// two arrays, those of the source and of the sink of one array, and the fixed ones. None ends in a number, as the names of the
-/// network's signals and parts do.
+/// two arrays, whose names may differ in case alone, those of the source and of the sink of one array, and the fixed ones. None
+/// ends in a number, as the names of the network's signals and parts do.
 pub fn network_ports_differ()
     ensures entity { (nest : Nest) (units : List Unit) → network_entity nest units
         ≡ entity_with (codes "network") (network_ports nest units) }

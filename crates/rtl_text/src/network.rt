@@ -3,7 +3,7 @@ ghost use Rattle.std.specs.List.{flat_map};
 ghost use Rattle.text_out.specs.Wrote.{Wrote};
 ghost use Rattle.unit_text.specs.Ports.{port_line};
 ghost use Rattle.rtl_text.specs.Joins.{array_joins, join_line, join_lines, role_joins_of};
-ghost use Rattle.rtl_text.specs.Names.{array_name, goes_on as is_continued, is_digit as is_decimal, is_letter as is_lower, is_plain as is_plain_name, may_follow as may_stand, port_name, way_out};
+ghost use Rattle.rtl_text.specs.Names.{array_name, differ_in_case as differ_in_letters, goes_on as is_continued, has_namesake as has_double, is_bare as stands_bare, is_digit as is_decimal, is_letter as is_letter_byte, is_lower_case as is_small, is_plain as is_plain_name, may_follow as may_stand, port_name, way_out};
 ghost use Rattle.rtl_text.specs.Networks.{channel_part_text, channel_text, for_channels, for_units, instance_text, joins_text, network_body, network_entity, node_part, unit_part_text};
 ghost use Rattle.rtl_text.specs.Ports.{array_ports, outer_ports, port_lines};
 
@@ -44,10 +44,24 @@ pub(crate) enum End {
     Writer,
 }
 
-fn is_letter(byte: u8) -> bool
-    ensures { result ≡ is_lower byte }
+/// How the ports of an array are named: by its name, and what they say behind their part.
+#[derive(Clone, Copy)]
+struct PortNames<'a> {
+    nest: &'a Nest,
+    array: &'a [u8],
+    way: &'a [u8],
+}
+
+fn is_lower_case(byte: u8) -> bool
+    ensures { result ≡ is_small byte }
 {
     byte >= b'a' && byte <= b'z'
+}
+
+fn is_letter(byte: u8) -> bool
+    ensures { result ≡ is_letter_byte byte }
+{
+    is_lower_case(byte.to_ascii_lowercase())
 }
 
 fn is_digit(byte: u8) -> bool
@@ -82,8 +96,7 @@ fn goes_on(name: &[u8]) -> bool
     !behind
 }
 
-/// Whether VHDL takes a name as it is, in whatever case it is read: lower-case letters, digits and single underscores between
-/// two of these, and a letter in front.
+/// Whether VHDL takes a name as it is: letters, digits and single underscores between two of these, and a letter in front.
 fn is_plain(name: &[u8]) -> bool
     ensures { result ≡ is_plain_name name.now }
 {
@@ -93,21 +106,46 @@ fn is_plain(name: &[u8]) -> bool
     }
 }
 
-/// Writes the name of a port of an array.
-fn write_port<W: TextWriter>(array: &[u8], part: &[u8], way: &[u8], out: &mut W)
-    ensures { Wrote W.given out.old out.new (port_name array.now part.now way.now) }
+/// Whether two names differ in the case of their letters alone.
+fn differ_in_case(name: &[u8], other: &[u8]) -> bool
+    ensures { result ≡ differ_in_letters name.now other.now }
 {
-    if is_plain(array) {
-        out.put(array);
+    name.eq_ignore_ascii_case(other) && name != other
+}
+
+/// Whether another array's name differs from this one in the case of its letters alone.
+fn has_namesake(nest: &Nest, name: &[u8]) -> bool
+    ensures { result ≡ has_double nest.now name.now }
+{
+    let arrays = nest.arrays.as_slice();
+    arrays
+        .iter()
+        .any(|array| differ_in_case(name, array.name.as_slice()))
+}
+
+/// Whether an array's name stands as it is in those of its ports, and not between backslashes.
+fn is_bare(nest: &Nest, name: &[u8]) -> bool
+    ensures { result ≡ stands_bare nest.now name.now }
+{
+    is_plain(name) && !has_namesake(nest, name)
+}
+
+/// Writes the name of a port of an array.
+fn write_port<W: TextWriter>(names: &PortNames, part: &[u8], out: &mut W)
+    ensures { Wrote W.given out.old out.new
+        (port_name names.now.nest.now names.now.array.now part.now names.now.way.now) }
+{
+    if is_bare(names.nest, names.array) {
+        out.put(names.array);
         out.put(b"_");
         out.put(part);
-        out.put(way);
+        out.put(names.way);
     } else {
         out.put(b"\\");
-        out.put(array);
+        out.put(names.array);
         out.put(b"_");
         out.put(part);
-        out.put(way);
+        out.put(names.way);
         out.put(b"\\");
     }
 }
@@ -138,6 +176,30 @@ fn way_of(is_given: bool) -> &'static [u8]
     if is_given { b"_out" } else { b"" }
 }
 
+fn source_names(nest: &Nest, array: u32) -> PortNames<'_>
+    ensures nest { result.nest.now ≡ nest.now }
+    ensures array { result.array.now ≡ array_name nest.now array }
+    ensures way { result.way.now ≡ [] }
+{
+    PortNames {
+        nest,
+        array: name_of(nest, array),
+        way: b"",
+    }
+}
+
+fn sink_names(nest: &Nest, array: u32) -> PortNames<'_>
+    ensures nest { result.nest.now ≡ nest.now }
+    ensures array { result.array.now ≡ array_name nest.now array }
+    ensures way { result.way.now ≡ way_out nest.now array }
+{
+    PortNames {
+        nest,
+        array: name_of(nest, array),
+        way: way_out_of(nest, array),
+    }
+}
+
 /// Writes the channel's entity, with an empty line before it.
 pub(crate) fn write_channel<W: TextWriter>(out: &mut W)
     ensures { Wrote W.given out.old out.new channel_text }
@@ -154,12 +216,14 @@ pub(crate) fn write_channel<W: TextWriter>(out: &mut W)
 }
 
 /// Writes a port of an array as an entity has it, with its mode and type.
-fn write_port_line<W: TextWriter>(array: &[u8], part: &[u8], way: &[u8], mode: &[u8], out: &mut W)
+fn write_port_line<W: TextWriter>(names: &PortNames, part: &[u8], mode: &[u8], out: &mut W)
     ensures { Wrote W.given out.old out.new
-        (port_line (port_name array.now part.now way.now, mode.now) ++ codes ";\n") }
+        (port_line
+        (port_name names.now.nest.now names.now.array.now part.now names.now.way.now, mode.now)
+        ++ codes ";\n") }
 {
     out.put(b"    ");
-    write_port(array, part, way, out);
+    write_port(names, part, out);
     out.put(b" : ");
     out.put(mode);
     out.put(b";\n");
@@ -167,19 +231,19 @@ fn write_port_line<W: TextWriter>(array: &[u8], part: &[u8], way: &[u8], mode: &
 
 /// Writes the ports of an array with their modes and types.
 fn write_array_ports<W: TextWriter>(
-    array: &[u8],
-    way: &[u8],
+    names: &PortNames,
     value: &[u8],
     valid: &[u8],
     ready: &[u8],
     out: &mut W,
 )
     ensures { Wrote W.given out.old out.new
-        (port_lines (array_ports array.now way.now value.now valid.now ready.now)) }
+        (port_lines (array_ports names.now.nest.now names.now.array.now names.now.way.now
+        value.now valid.now ready.now)) }
 {
-    write_port_line(array, b"data", way, value, out);
-    write_port_line(array, b"valid", way, valid, out);
-    write_port_line(array, b"ready", way, ready, out);
+    write_port_line(names, b"data", value, out);
+    write_port_line(names, b"valid", valid, out);
+    write_port_line(names, b"ready", ready, out);
 }
 
 fn write_outer_ports<W: TextWriter>(nest: &Nest, role: Role, out: &mut W)
@@ -187,8 +251,7 @@ fn write_outer_ports<W: TextWriter>(nest: &Nest, role: Role, out: &mut W)
 {
     match role {
         Role::Source(array) => write_array_ports(
-            name_of(nest, array),
-            b"",
+            &source_names(nest, array),
             b"in signed(63 downto 0)",
             b"in std_logic",
             b"out std_logic",
@@ -196,8 +259,7 @@ fn write_outer_ports<W: TextWriter>(nest: &Nest, role: Role, out: &mut W)
         ),
         Role::Assign => {}
         Role::Sink(array) => write_array_ports(
-            name_of(nest, array),
-            way_out_of(nest, array),
+            &sink_names(nest, array),
             b"out signed(63 downto 0)",
             b"out std_logic",
             b"in std_logic",
@@ -207,14 +269,16 @@ fn write_outer_ports<W: TextWriter>(nest: &Nest, role: Role, out: &mut W)
 }
 
 /// Writes how a port of a node is joined to one of an array.
-fn write_join_line<W: TextWriter>(inner: &[u8], array: &[u8], part: &[u8], way: &[u8], out: &mut W)
+fn write_join_line<W: TextWriter>(inner: &[u8], names: &PortNames, part: &[u8], out: &mut W)
     ensures { Wrote W.given out.old out.new
-        (join_line (inner.now, port_name array.now part.now way.now) ++ codes ",\n") }
+        (join_line
+        (inner.now, port_name names.now.nest.now names.now.array.now part.now names.now.way.now)
+        ++ codes ",\n") }
 {
     out.put(b"      ");
     out.put(inner);
     out.put(b" => ");
-    write_port(array, part, way, out);
+    write_port(names, part, out);
     out.put(b",\n");
 }
 
@@ -223,16 +287,16 @@ fn write_array_joins<W: TextWriter>(
     value: &[u8],
     valid: &[u8],
     ready: &[u8],
-    array: &[u8],
-    way: &[u8],
+    names: &PortNames,
     out: &mut W,
 )
     ensures { Wrote W.given out.old out.new
-        (join_lines (array_joins value.now valid.now ready.now array.now way.now)) }
+        (join_lines (array_joins names.now.nest.now value.now valid.now ready.now
+        names.now.array.now names.now.way.now)) }
 {
-    write_join_line(value, array, b"data", way, out);
-    write_join_line(valid, array, b"valid", way, out);
-    write_join_line(ready, array, b"ready", way, out);
+    write_join_line(value, names, b"data", out);
+    write_join_line(valid, names, b"valid", out);
+    write_join_line(ready, names, b"ready", out);
 }
 
 fn write_role_joins<W: TextWriter>(nest: &Nest, role: Role, out: &mut W)
@@ -243,8 +307,7 @@ fn write_role_joins<W: TextWriter>(nest: &Nest, role: Role, out: &mut W)
             b"given",
             b"given_valid",
             b"given_ready",
-            name_of(nest, array),
-            b"",
+            &source_names(nest, array),
             out,
         ),
         Role::Assign => {}
@@ -252,8 +315,7 @@ fn write_role_joins<W: TextWriter>(nest: &Nest, role: Role, out: &mut W)
             b"result",
             b"result_valid",
             b"result_ready",
-            name_of(nest, array),
-            way_out_of(nest, array),
+            &sink_names(nest, array),
             out,
         ),
     }

@@ -8,7 +8,7 @@ pub returns : goal.returns
 returns g c =
     let w = g.W.TextWriter.given in
     Wrote-line w (codes "      ") c.args.inner.now (codes " => ")
-    (port_name c.args.array.now c.args.part.now c.args.way.now) (codes ",\n")
+    (port_name c.args.names.now.nest.now c.args.names.now.array.now c.args.part.now c.args.names.now.way.now) (codes ",\n")
     (Wrote-append w _ _ c.put.ensures
     (Wrote-append w _ _ c.put-2.ensures
     (Wrote-append w _ _ c.put-3.ensures (Wrote-append w _ _ c.write_port.ensures c.put-4.ensures))))

@@ -7,7 +7,7 @@ use Rattle.rtl_text.proofs.network.write_port_line.Goals as goal
 pub returns : goal.returns
 returns g c =
     let w = g.W.TextWriter.given in
-    Wrote-line w (codes "    ") (port_name c.args.array.now c.args.part.now c.args.way.now) (codes " : ") c.args.mode.now
+    Wrote-line w (codes "    ") (port_name c.args.names.now.nest.now c.args.names.now.array.now c.args.part.now c.args.names.now.way.now) (codes " : ") c.args.mode.now
     (codes ";\n")
     (Wrote-append w _ _ c.put.ensures
     (Wrote-append w _ _ c.write_port.ensures

@@ -1,7 +1,8 @@
 #!/usr/bin/env python3
 """Shows that the checks can fail: it plants a fault for each, and wants the check to end with 1.
 
-usage: tools/test_checks.py [--compaan PROGRAM] [NAME]..      (NAME: faults whose check or text has this in it; all where none is named)
+usage: tools/test_checks.py [--compaan PROGRAM] [--rtl PROGRAM] [NAME]..
+                            (NAME: faults whose check or text has this in it; all where none is named)
 
 Most faults are a program that passes the built one's answers on but for one, in which a text is another; others are a program that looks at
 no errors or that always ends with 10, and a copy of the repository in which a line is another. Some are wrong bodies that no clause refuses,
@@ -22,14 +23,16 @@ from dataclasses import dataclass
 from pathlib import Path
 
 from common import TOP, head, parser_of, program_of, row
+from front_door.base import COMPAAN, RTL
 
-# A program that answers as PROGRAM does, but that in the output of COMMAND what the pattern finds first is replaced.
+# A program that answers as PROGRAM does, but that in the output of COMMAND, or in each where it is None, what the pattern finds first is
+# replaced.
 SPOILING = """#!{python}
 import re, subprocess, sys
 command = next((it for it in sys.argv[1:] if not it.startswith("-")), "")
 done = subprocess.run([{program!r}, *sys.argv[1:]], stdin=sys.stdin, stdout=subprocess.PIPE)
 output = done.stdout
-if command == {command!r}:
+if {command!r} in (None, command):
     output = re.sub({pattern!r}, {new!r}, output, count=1)
 sys.stdout.buffer.write(output)
 sys.stdout.flush()
@@ -45,16 +48,18 @@ TESTS = "rt try --test"
 
 @dataclass(frozen=True)
 class Fault:
-    """A check with its words, what is wrong, and what makes the program or the repository that it meets, in a folder of its own."""
+    """A check with its words, what is wrong, and what makes the program or the repository that it meets, in a folder of its own. The program
+    is one of these two."""
 
     check: str
     words: list[str]
     what: str
     make: Callable[[Path, str], tuple[Path, str]]
+    program: str = COMPAAN
 
 
-def spoiled(command: str, pattern: bytes, new: bytes) -> Callable[[Path, str], tuple[Path, str]]:
-    """This repository with a program that answers a command otherwise."""
+def spoiled(command: str | None, pattern: bytes, new: bytes) -> Callable[[Path, str], tuple[Path, str]]:
+    """This repository with a program that answers a command otherwise, or all of them."""
 
     def make(folder: Path, program: str) -> tuple[Path, str]:
         path = folder / "compaan"
@@ -226,10 +231,28 @@ def faults() -> Iterator[Fault]:
             ("../hardware/synthesize", ["--text", "rtl", *kernel]),
         ):
             yield Fault(check, words, "seq: another value", spoiled("seq", rb",1", b",2"))
+        jacobi = ["--policy", "down", "jacobi_1d"]
+        jacobi_kernel = ["--policy", "down", "examples/jacobi_1d.loop", "N=8", "T=3"]
+        for check, words, tight, turn in (
+            ("hardware/designs.py", ["--std", "93", *jacobi], 2, (8, 5)),
+            ("hardware/synthesize.py", ["--text", "rtl", *jacobi], 2, (8, 5)),
+            ("hardware/large.py", ["--quick", "sobel"], 30, (8, 140)),
+            ("../hardware/frames", jacobi_kernel, 2, (8, 5)),
+            ("../hardware/synthesize", ["--text", "rtl", *jacobi_kernel], 2, (8, 5)),
+        ):
+            for what, change in design_faults(tight, *turn):
+                yield Fault(check, words, f"rtl: {what}", change, RTL)
     else:
         print("there is no GHDL, so no fault is planted for what is simulated", file=sys.stderr)
     other_slot = spoiled("vhdl", rb"3 => 0, 4 => 1, 5", b"3 => 0, 4 => 2, 5")
     yield Fault("hardware/folds.py", ["--quick", "transpose"], "vhdl: another slot", other_slot)
+    more = spoiled(None, rb"signal pc : integer range 0 to (\d+) := 0", rb"signal pc : integer range 0 to 1\1 := 0")
+    yield Fault("hardware/folds.py", ["--quick", "transpose"], "rtl: more instructions", more, RTL)
+    kernel = ["examples/jacobi_1d.loop", "N=8", "T=3"]
+    other_clocks = spoiled(None, rb"clocks \d", b"clocks 9")
+    yield Fault("../hardware/least_clocks", kernel, "rtl: another number of clocks", other_clocks, RTL)
+    not_least = changed("tools/hardware/least.py", "= enough\n", "= min(enough + 1, capacities[channel])\n", ("hardware",))
+    yield Fault("../hardware/least_clocks", kernel, "capacities that aren't the least", not_least)
     yield Fault("check_c.py", ["gemm"], "run: another value", spoiled("run", rb",", b",1"))
     yield Fault("check_isl.py", FEW, "deps: another writer", spoiled("deps", rb"(?m)^w 0 ", b"w 1 "))
     yield Fault("check_isl.py", FEW, "deps: another test", spoiled("deps", rb"(?m)^t (-?\d+) ", rb"t \g<1>1 "))
@@ -263,6 +286,15 @@ def faults() -> Iterator[Fault]:
         yield Fault("hostile/fuzz.py", ["--count", "12", "--keep", KEPT], f"{command}: another text", spoiled(command, pattern, new))
 
 
+def design_faults(tight: int, at: int, turns: int) -> Iterator[tuple[str, Callable[[Path, str], tuple[Path, str]]]]:
+    """Faults of a design: of the first channel of a capacity that it needs, of two ports, and of the first repeat that ends behind this
+    instruction with so many turns."""
+    yield "a channel with a place less", spoiled(None, b"capacity => %d" % tight, b"capacity => %d" % (tight - 1))
+    yield "two ports exchanged", spoiled(None, rb"(?s)c0_front => front_0(.*?)c1_front => front_1", rb"c0_front => front_1\1c1_front => front_0")
+    counts = rb"(constant count\d : [^;]*[ (]%d => )%d\b" % (at, turns)
+    yield "a repeat with a turn less", spoiled(None, counts, rb"\g<1>%d" % (turns - 1))
+
+
 def wrong_bodies() -> Iterator[Fault]:
     """Wrong bodies that the contracts let through, each with the test or the script that refuses it."""
     by_network = "let run = run_by_threads(rt, alloc, &nest, &inputs, policy, gate)?;\n    Ok(Answer::Arrays"
@@ -294,12 +326,13 @@ def without_tests(folder: Path, program: str) -> tuple[Path, str]:
     return top, program
 
 
-def told(fault: Fault, program: str) -> tuple[int, str]:
+def told(fault: Fault, programs: dict[str, str]) -> tuple[int, str]:
     """The status of a check that meets the fault, and what it says first."""
     with tempfile.TemporaryDirectory(prefix="checks-") as name:
-        top, met = fault.make(Path(name), program)
+        top, met = fault.make(Path(name), programs[fault.program])
         words = [f"{name}/kept" if it == KEPT else it for it in fault.words]
-        environment = {**os.environ, "COMPAAN": met, "PYTHONDONTWRITEBYTECODE": "1"}
+        met_by = {it.upper(): path for it, path in {**programs, fault.program: met}.items()}
+        environment = {**os.environ, **met_by, "PYTHONDONTWRITEBYTECODE": "1"}
         called = TESTS.split() if fault.check == TESTS else [top / "tools" / fault.check, *words]
         place = top / "crates" / words[0] if fault.check == TESTS else top
         done = subprocess.run(called, cwd=place, env=environment, capture_output=True, text=True, errors="replace", check=False)
@@ -312,15 +345,18 @@ def told(fault: Fault, program: str) -> tuple[int, str]:
 
 def main() -> int:
     parser = parser_of(__doc__)
+    parser.add_argument("--rtl", metavar="PROGRAM", help="the program that writes designs (the variable COMPAAN_RTL, or else the built one)")
     parser.add_argument("names", metavar="NAME", nargs="*")
     given = parser.parse_args()
-    program = program_of(given.compaan)
+    programs = {COMPAAN: program_of(given.compaan)}
     print(head(["Check", "Fault", "Status", "It says first"]), flush=True)
     planted = missed = 0
     for fault in faults():
         if given.names and not any(it in f"{fault.check} {fault.what}" for it in given.names):
             continue
-        status, said = told(fault, program)
+        if fault.program not in programs:
+            programs[fault.program] = program_of(given.rtl, fault.program)
+        status, said = told(fault, programs)
         planted += 1
         missed += status != 1
         shown = re.sub(r"\s+", " ", said)[:100].replace("`", "'")

@@ -121,11 +121,12 @@ def bench_text(streams: Sequence[Stream]) -> str:
     return BENCH.format(streams=made, inputs=inputs, outputs=outputs, steps=steps, all_came=came)
 
 
-def headers() -> str:
+def headers(yosys: str) -> str:
     """Where yosys keeps the headers of what it writes in C++."""
-    for folder in ("/usr/share/yosys/include", "/usr/local/share/yosys/include"):
-        if Path(folder, "backends/cxxrtl/cxxrtl.h").is_file():
-            return folder
+    for folder in (Path(yosys).parents[1], Path("/usr"), Path("/usr/local")):
+        found = folder / "share" / "yosys" / "include"
+        if (found / "backends/cxxrtl/cxxrtl.h").is_file():
+            return str(found)
     stop("there is no backends/cxxrtl/cxxrtl.h of yosys here (Debian's package yosys-dev has it)")
 
 
@@ -140,7 +141,7 @@ def compiled(ghdl: str, yosys: str, design: str, folder: str) -> str:
     if not well:
         raise Unfit("not read by yosys: " + "; ".join(lines))
     # without NDEBUG a memory that is read behind its end, where nothing looks at what comes of it, ends the program
-    words = [compiler, "-std=c++17", "-O1", "-w", "-DNDEBUG", f"-I{headers()}", "-o", "bench", "bench.cpp"]
+    words = [compiler, "-std=c++17", "-O1", "-w", "-DNDEBUG", f"-I{headers(yosys)}", "-o", "bench", "bench.cpp"]
     well, lines = harness.call(words, folder)
     if not well:
         raise Unfit("not compiled: " + "; ".join(lines[:3]))

@@ -5,7 +5,7 @@
 -- there. So both sides are the same question on the uses, for each channel by itself. Nothing is said here of how many
 -- slots a channel out of order needs.
 use Rattle.std.proofs.Common.{◌≡◌, ◌<◌, ◌==◌, ℕ, List, [], ◌∷◌, ◌||◌, Bool, true, false, cond, Some, None, length, refl}
-use Rattle.std.proofs.Common.{arith, ap, IsTrue, ◌↔◌, ⊥}
+use Rattle.std.proofs.Common.{arith, ap, IsTrue, ◌↔◌}
 use Rattle.std.specs.Prelude.{Option}
 use Rattle.std.specs.List.{All, cons_option, flat_map, list_any, range_with_len}
 use Rattle.std.proofs.lemmas.Bool.{eq-eqb, ne_eqb}

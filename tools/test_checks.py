@@ -5,10 +5,10 @@ usage: tools/test_checks.py [--compaan PROGRAM] [--rtl PROGRAM] [NAME]..
                             (NAME: faults whose check or text has this in it; all where none is named)
 
 Most faults are a program that passes the built one's answers on but for one, in which a text is another; others are a program that looks at
-no errors or that always ends with 10, and a copy of the repository in which a line is another. Some are wrong bodies that no clause refuses,
-since the answers are equal, or since want of memory is always allowed: the test of a crate (`rt try --test`), or the script, that is there for
-each is wanted to fail. For the simulations by GHDL tools/hardware/faults.py does more of this; the tables of bench/, layers.py and gate.py
-judge nothing. Prints a row for each fault, and fails where one isn't told. It takes some minutes, and a wrong body as many.
+no errors or that always ends with 10, and a copy of the repository in which a line is another. Some are wrong bodies that no clause
+refuses, since the answers are equal, or since want of memory is always allowed: the test of a crate (`rt try --test`), or the script, that
+is there for each is wanted to fail. For the simulations by GHDL tools/hardware/faults.py does more of this; the tables of bench/, layers.py
+and gate.py judge nothing. Prints a row for each fault, and fails where one isn't told. It takes some minutes, and a wrong body as many.
 """
 from __future__ import annotations
 
@@ -299,6 +299,8 @@ def wrong_bodies() -> Iterator[Fault]:
     """Wrong bodies that the contracts let through, each with the test or the script that refuses it."""
     by_network = "let run = run_by_threads(rt, alloc, &nest, &inputs, policy, gate)?;\n    Ok(Answer::Arrays"
     told, put = "            gate.moved(process, *channel, value);\n", "            ends.put(rt, *channel, value);\n"
+    advanced = "board.lock(rt).advance(lane, lanes);"
+    idle = "if lane < lanes { gate.pass(lane); Advance::Done } else { board.lock(rt).advance(lane, lanes) };"
     no_rows = "        let mut cells = Cells::empty(alloc);\n"
     for crate, test, what, file, old, new in (
         ("thread_tests", "each_process_has_a_thread", "what the threads found is thrown away",
@@ -307,11 +309,19 @@ def wrong_bodies() -> Iterator[Fault]:
          "command_answers/src/run.rt", by_network, "let _ = policy;\n    " + by_network.replace("policy", "Policy::Seq")),
         ("thread_tests", "a_writer_fills_its_channel_and_waits", "the gate is told after the put",
          "node_runner/src/node.rt", told + put, put + told),
+        ("thread_tests", "a_worker_steps_its_lane", "what the workers stepped is thrown away",
+         "trace_board/src/workers.rt", "    if first.network()", "    if false && first.network()"),
+        ("thread_tests", "a_worker_steps_its_lane", "a worker asks the gate twice and steps nothing",
+         "trace_board/src/workers.rt", advanced, idle),
+        ("thread_tests", "a_worker_steps_its_lane", "a worker steps any process",
+         "trace_board/src/workers.rt", advanced, advanced.replace("lane, lanes", "lane - lane, 1 + lanes - lanes")),
+        ("thread_tests", "four_workers_ask", "the last worker is never started",
+         "trace_board/src/workers.rt", "for lane in 0..lanes {", "for lane in 0..lanes - 1 {"),
         ("refusal_tests", "many_arrays_are_declared", "more than 256 arrays are want of memory",
          "cell_rows/src/cells.rt", no_rows, "        if arrays.len() > 256 {\n            return Err(AllocError);\n        }\n" + no_rows),
     ):  # fmt: skip
         yield Fault(TESTS, [crate, test], what, changed(f"crates/{file}", old, new, ("crates",)))
-    never_less = other_program("crates/cell_rows/src/cells.rt", "        self.room = self.room.saturating_sub(grown);\n", "        let _ = grown;\n")
+    never_less = other_program("crates/cell_rows/src/cells.rt", "self.room = self.room.saturating_sub(grown);", "let _ = grown;")
     far_cells = ["--only", "size", "--share", "10/12"]
     yield Fault("hostile/limits.py", far_cells, "rows of cells that all together have no limit", never_less)
 

@@ -17,8 +17,9 @@ use swept_net::compile_network;
 use witness_plan::{Policy, other_capacities, with_capacities};
 
 /// The network of a nest with least capacities (as SDF3 looks for buffers that can't be smaller): those of the schedule `down`,
-/// lowered one after the other as far as the network still ends. With one place less in any channel it sticks. It fits the nest
-/// with the schedule of its least-process run, so it is sound: in every order of events it computes what the nest computes.
+/// lowered one after the other as far as the network still ends. With one place less in any channel it sticks, and with no
+/// capacities below these does any run end all. It fits the nest with the schedule of its least-process run, so it is sound: in
+/// every order of events it computes what the nest computes.
 ///
 /// Points come beside the nest as for `trim`, which doesn't need them. It takes for each channel the time of two runs. Nothing is
 /// refused but want of memory.

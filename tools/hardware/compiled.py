@@ -12,7 +12,7 @@ from common import stop
 from hardware import harness
 from hardware.frames import Frames, Run, Stream, files_of, judged, most_clocks, runs_of, streams_of
 from hardware.harness import Outcome
-from hardware.netlists import verilog_of
+from hardware.netlists import verilog_files
 from hardware.wiring import Unfit, write_file
 
 WRITE = "read_verilog netlist.v; hierarchy -check -top network; proc; flatten; opt_clean; check -assert; write_cxxrtl -g0 design.cpp"
@@ -135,7 +135,8 @@ def compiled(ghdl: str, yosys: str, design: str, folder: str) -> str:
     compiler = shutil.which("c++") or shutil.which("g++") or shutil.which("clang++")
     if not compiler:
         stop("there is no compiler of C++ here")
-    write_file(folder, "netlist.v", verilog_of(ghdl, {"design.vhd": design}))
+    for name, text in verilog_files(ghdl, {"design.vhd": design}).items():
+        write_file(folder, name, text)
     write_file(folder, "bench.cpp", bench_text(streams_of(design)))
     well, lines = harness.call([yosys, "-q", "-p", WRITE], folder)
     if not well:

@@ -107,6 +107,26 @@ def verilog_of(ghdl: str, files: Mapping[str, str], seconds: float | None = None
     return re.sub(r"\d+'b([01]+)\[(\d+)\]", lambda part: "1'b" + part[1][-1 - int(part[2])], netlist)
 
 
+# The values of a memory that stand in it from the start, from the last place to the first.
+VALUES = re.compile(r"(?m)^  initial begin\n    (\w+)\[(\d+)\] = \d+'b[01]+;\n(?:    \1\[\d+\] = \d+'b[01]+;\n)*    end$")
+
+
+def verilog_files(ghdl: str, files: Mapping[str, str], seconds: float | None = None) -> dict[str, str]:
+    """The netlist as Verilog that yosys reads, in netlist.v, with the values of its memories in files of their own. yosys takes a time for
+    values that stand in the text which grows with the square of their number: for those of a product of 32 by 32 many minutes."""
+    tables: dict[str, str] = {}
+
+    def apart(found: re.Match[str]) -> str:
+        values = re.findall(r"(?m)\[(\d+)\] = \d+'b([01]+);$", found[0])
+        if [int(place) for place, _ in values] != list(range(int(found[2]), -1, -1)):
+            raise Unfit(f"the netlist gives the memory {found[1]} other places than it has")
+        name = f"table_{len(tables)}.txt"
+        tables[name] = "".join(f"{value}\n" for _, value in reversed(values))
+        return f'  initial $readmemb("{name}", {found[1]});'
+
+    return {"netlist.v": VALUES.sub(apart, verilog_of(ghdl, files, seconds)), **tables}
+
+
 def counts_of(part: Mapping[str, object]) -> tuple[Counts, Counter[str]]:
     """What yosys tells of a module, and the modules in it."""
     cells = multipliers = flip_flops = latches = 0

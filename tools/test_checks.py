@@ -242,6 +242,13 @@ def faults() -> Iterator[Fault]:
         ):
             for what, change in design_faults(tight, *turn):
                 yield Fault(check, words, f"rtl: {what}", change, RTL)
+        told_otherwise = spoiled(None, rb"^clocks \d", b"clocks 9")
+        for check, words in (
+            ("hardware/designs.py", ["--std", "93", *jacobi]),
+            ("hardware/large.py", ["--quick", "sobel"]),
+            ("../hardware/frames", jacobi_kernel),
+        ):
+            yield Fault(check, words, "rtl: another number of clocks", told_otherwise, RTL)
     else:
         print("there is no GHDL, so no fault is planted for what is simulated", file=sys.stderr)
     other_slot = spoiled("vhdl", rb"3 => 0, 4 => 1, 5", b"3 => 0, 4 => 2, 5")

@@ -3,6 +3,7 @@ from __future__ import annotations
 
 import re
 from collections.abc import Iterator, Sequence
+from pathlib import Path
 from typing import NamedTuple
 
 from common import Example, bundled
@@ -22,12 +23,13 @@ class Stream(NamedTuple):
 
 
 class Frames(NamedTuple):
-    """A design with the data and the answer of some frames: its text, how many events its network has in a frame, the clocks that
-    `compaan sim` counts of one, and the frames."""
+    """A design with the data and the answer of some frames: its text, how many events its network has in a frame, the clocks of one that
+    `compaan sim` counts and those that `compaan rtl --clocks` tells, and the frames."""
 
     design: str
     events: int
     clocks: int
+    told: int
     frames: Sequence[tuple[Arrays, Arrays]]
 
 
@@ -289,7 +291,8 @@ def frames_of(program: str, rtl: str, policy: str, kernel: Example, number: int)
         frame = moved(data, at)
         answer = harness.written(program, ["seq", *kernel.items], bundled(kernel.source, data_text(frame)))
         frames.append((frame, read_arrays(answer)))
-    return Frames(design, events, harness.clocks_of(program, policy, kernel), frames)
+    told = harness.clocks_told(harness.written(rtl, [*planned, "--clocks"], kernel.source), f"{Path(rtl).name} --clocks")
+    return Frames(design, events, harness.clocks_of(program, policy, kernel), told, frames)
 
 
 def runs_of(frames: Frames) -> list[Run]:
@@ -310,9 +313,14 @@ def files_of(frames: Frames, run: Run) -> dict[str, str]:
 
 
 def judged(frames: Frames, run: Run, outcome: Outcome) -> Outcome:
-    """The outcome of a run, where the clocks of one frame are those that `compaan sim` counts."""
-    if run == Run(1, False) and outcome.verdict == "equal" and outcome.clocks != frames.clocks:
+    """The outcome of a run, where the clocks of one frame are those that `compaan sim` counts, and those that `compaan rtl --clocks`
+    tells."""
+    if run != Run(1, False) or outcome.verdict != "equal":
+        return outcome
+    if outcome.clocks != frames.clocks:
         return Outcome("not sim's clocks", outcome.clocks, [f"compaan sim counts {frames.clocks} clocks"])
+    if outcome.clocks != frames.told:
+        return Outcome("not the told clocks", outcome.clocks, [f"compaan rtl --clocks tells {frames.told} clocks"])
     return outcome
 
 

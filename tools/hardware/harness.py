@@ -146,10 +146,15 @@ def text_of(program: str, command: str, policy: str, example: Example) -> str:
 
 def clocks_of(program: str, policy: str, example: Example) -> int:
     """The clocks that the program counts of an example's network: the last line of `compaan sim`."""
-    last = text_of(program, "sim", policy, example).splitlines()[-1]
+    return clocks_told(text_of(program, "sim", policy, example), "compaan sim")
+
+
+def clocks_told(text: str, command: str) -> int:
+    """The clocks that the last line of what a command wrote tells."""
+    last = (text.splitlines() or [""])[-1]
     told = re.fullmatch(r"clocks (\d+)", last)
     if not told:
-        raise Unfit(f"`compaan sim` ended with the line `{last}`, which tells no clocks")
+        raise Unfit(f"`{command}` ended with the line `{last}`, which tells no clocks")
     return int(told[1])
 
 

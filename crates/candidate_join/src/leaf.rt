@@ -21,7 +21,7 @@ ghost use Rattle.difference_graphs.specs.Paths.{term_of};
 ghost use Rattle.source_tree.specs.Systems.{every, write_systems, Occurrence};
 
 use crate::path::State;
-use affine_core::Form;
+use affine_core::KeptForm;
 use candidate_order::{
     Absence, Equality, Order, Outcome, Position, Problem, carried, level_count, outcome_of, places,
 };
@@ -42,7 +42,7 @@ pub struct Excluded {
 }
 
 /// The forms of the point of a candidate's Writer leaf.
-pub fn point_of<'a>(at: &Position<'a>) -> &'a [Form]
+pub fn point_of<'a>(at: &Position<'a>) -> &'a [KeptForm]
     requires { (place : List FormOf) × IsPointAt at.now place }
     ensures { IsPointAt at.now result.now }
 {
@@ -377,12 +377,13 @@ fn push_heads(
     push_carried(proofs, alloc, sums.as_slice(), &own[..heads])
 }
 
-fn copy_forms(alloc: Global, forms: &[Form]) -> Result<Items<Form>, AllocError>
+fn copy_forms(alloc: Global, forms: &[KeptForm]) -> Result<Items<KeptForm>, AllocError>
     ensures { IfOk result (λ copies. copies ≡ forms.now) }
 {
     let mut copies = Items::new(alloc);
     for form in forms {
-        copies.push(form.copy())?;
+        let copy = KeptForm::of(alloc, &form.get())?;
+        copies.push(copy)?;
     }
     Ok(copies)
 }

@@ -28,7 +28,7 @@ ghost use Rattle.tree_trim.specs.Sides.{AreJoinedSides};
 ghost use Rattle.tree_trim.specs.Trees.{branch_or_test};
 
 use crate::leaf::{Excluded, point_of, writer_leaf, zero_leaf};
-use affine_core::Form;
+use affine_core::{Form, whole_forms};
 use candidate_order::{
     Absence, Candidate, Compared, Comparison, Followed, Pair, Position, Question, Read, Seen,
     absence_of, best_of, compare_points, copy_rows, exclusion, follow, level_count, own_rows,
@@ -154,7 +154,9 @@ fn exclusions(
     let second = candidate.writes.write;
     let loops = first.statement.loops.as_slice();
     let common = common_loops(loops, second.statement.loops.as_slice());
-    let place = point_of(best);
+    let point = point_of(best);
+    let forms = whole_forms(alloc, point)?;
+    let place = forms.as_slice();
     let mut sums = Items::new(alloc);
     for level in 0..level_count(&first, &second) {
         let found = exclusion(context, candidate, place, level, level < common)?;
@@ -542,13 +544,7 @@ fn follow_on<'a>(
             let here = walk.context.rows.len() as u32;
             let above = side_of(alloc, candidate, yes.get(), rows.as_slice(), here)?;
             let below = side_of(alloc, candidate, no.get(), rows.as_slice(), here)?;
-            ask(
-                task,
-                walk,
-                form.copy(),
-                Next::Follow(above),
-                Next::Follow(below),
-            )
+            ask(task, walk, form, Next::Follow(above), Next::Follow(below))
         }
         Tree::Zero(proofs) => {
             let absence = absence_at(alloc, candidate, proofs.as_slice(), rows)?;

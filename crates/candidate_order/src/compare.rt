@@ -8,7 +8,7 @@ ghost use Rattle.row_sums.specs.Parts.{IsWithin};
 ghost use Rattle.source_tree.specs.Systems.{Occurrence};
 
 use crate::order::{Equality, Order, copy_equal, turned};
-use affine_core::Form;
+use affine_core::{Form, KeptForm};
 use difference_graphs::{difference, known, once, raised};
 use int_polyhedra::{System, Term};
 use plain_data::Items;
@@ -19,9 +19,9 @@ use std::alloc::{AllocError, Global};
 pub struct Pair<'a> {
     pub alloc: Global,
     pub best_writer: u32,
-    pub best: &'a [Form],
+    pub best: &'a [KeptForm],
     pub new_writer: u32,
-    pub new: &'a [Form],
+    pub new: &'a [KeptForm],
     pub common: usize,
 }
 
@@ -67,14 +67,16 @@ pub fn unopened(alloc: Global) -> Compared
 }
 
 // The first point less the second in one loop.
-fn gap(first: &[Form], second: &[Form], at: usize) -> Form
+fn gap(first: &[KeptForm], second: &[KeptForm], at: usize) -> Form
     requires first { at < length first.now }
     requires second { at < length second.now }
     requires forms { (vars : ℕ) × AreForms vars first.now × AreForms vars second.now }
     ensures { (vars : ℕ) → AreForms vars first.now → AreForms vars second.now
         → IsGap vars first.now second.now at result }
 {
-    difference(&first[at], &second[at])
+    let less = first[at].get();
+    let more = second[at].get();
+    difference(&less, &more)
 }
 
 // The form less 1.

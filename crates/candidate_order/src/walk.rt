@@ -34,7 +34,7 @@ pub fn follow<'a>(
         return Ok(Followed { node, rows });
     };
     let form = form.get();
-    match sign_of(context, form, &opposite(form))? {
+    match sign_of(context, &form, &opposite(&form))? {
         Sign::AtLeastZero(terms) => {
             rows.push(terms)?;
             follow(yes.get(), context, rows)

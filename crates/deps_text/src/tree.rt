@@ -23,14 +23,13 @@ pub(crate) fn write_tree<W: TextWriter>(tree: &Tree, out: &mut W)
 {
     match tree {
         Tree::Test(form, above, below) => {
-            let form = form.get();
             write_test(form, out);
             write_tree(above.get(), out);
             write_tree(below.get(), out);
         }
         Tree::Divides(form, divisor, above, below) => {
-            let form = form.get();
-            write_divides(form, *divisor, out);
+            let divisor = divisor.get();
+            write_divides(form, divisor, out);
             write_tree(above.get(), out);
             write_tree(below.get(), out);
         }

@@ -45,15 +45,15 @@ fn refute(proof: &Proof, alloc: Global, vars: usize, rows: &Rows) -> Result<(), 
         Proof::Cut(divisor, terms, rest) => {
             let divisor = divisor.get();
             let terms = terms.get();
-            match cut(alloc, vars, rows, *divisor, terms.as_slice()) {
+            match cut(alloc, vars, rows, divisor, terms.as_slice()) {
                 Ok(row) => refute(rest.get(), alloc, vars, &Rows::More(&*rows, &row)),
                 Err(reason) => Err(reason),
             }
         }
         Proof::Split(form, yes, no) => {
             let form = form.get();
-            match split(vars, form) {
-                Ok(other) => match refute(yes.get(), alloc, vars, &Rows::More(&*rows, form)) {
+            match split(vars, &form) {
+                Ok(other) => match refute(yes.get(), alloc, vars, &Rows::More(&*rows, &form)) {
                     Ok(()) => refute(no.get(), alloc, vars, &Rows::More(&*rows, &other)),
                     Err(reason) => Err(reason),
                 },

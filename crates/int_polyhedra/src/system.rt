@@ -1,4 +1,4 @@
-use affine_core::{Form, Row};
+use affine_core::{KeptForm, KeptNumber, Row};
 use plain_data::{Boxed, Items};
 
 /// Rows over so many variables, at most 18. A whole point meets the system where it meets every row.
@@ -16,16 +16,16 @@ pub struct Term {
 }
 
 /// A proof that no whole point meets a system. The system's rows are numbered from 0, and a row that a step adds takes
-/// the next number. What only a Cut or a Split has stands in boxes, so that a Sum, of which a proof has the most, is small.
+/// the next number. Divisors and forms stand in few bytes, and the terms of a Cut in a box, so that a step takes 40 bytes.
 #[derive(Drop)]
 pub enum Proof {
     /// The sum of the rows with these multipliers has no variable and a negative constant, as in Farkas' lemma.
     Sum(Items<Term>),
     /// The divisor divides each coefficient of the sum of the rows with these multipliers. The row of the quotients,
     /// with the constant rounded down, is added, and the rest is a proof of the larger system: Gomory's cut.
-    Cut(Boxed<i128>, Boxed<Items<Term>>, Boxed<Proof>),
+    Cut(KeptNumber, Boxed<Items<Term>>, Boxed<Proof>),
     /// A proof of the system with the row `form >= 0` added, and one of it with the row `-form - 1 >= 0` added.
-    Split(Boxed<Form>, Boxed<Proof>, Boxed<Proof>),
+    Split(KeptForm, Boxed<Proof>, Boxed<Proof>),
 }
 
 /// Why a step of a proof breaks its rule.

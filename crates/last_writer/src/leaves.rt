@@ -620,7 +620,7 @@ fn down(w: &Answered, rows: u32, opens: &mut Items<Open>, tree: Tree) -> Result<
 {
     match tree {
         Tree::Test(form, yes, no) => {
-            let form = form.into_inner();
+            let form = form.get();
             let no = no.into_inner();
             match opens.push(Open::First(form, no)) {
                 Ok(()) => Ok(Part::Joined(yes.into_inner())),

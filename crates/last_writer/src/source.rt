@@ -23,7 +23,7 @@ ghost use Rattle.source_tree.specs.References.{occurrence_of};
 use crate::contexts::below_test;
 use crate::leaves::{Answered, converted, refusal_of};
 use crate::writers::{Writer, is_never, push_writers};
-use affine_core::{Form, Row};
+use affine_core::{Form, KeptForm, KeptNumber, Row};
 use candidate_join::join;
 use candidate_order::{Problem, Read};
 use int_polyhedra::System;
@@ -194,10 +194,11 @@ fn divides(
         ≡ DividesOf (widened_form context.now.vars test.now.form) test.now.divisor yes no) }
 {
     let form = test.form.widened(context.vars as usize);
-    let form = Boxed::new(alloc, form)?;
+    let form = KeptForm::of(alloc, &form)?;
+    let divisor = KeptNumber::of(alloc, test.divisor)?;
     let yes = Boxed::new(alloc, yes)?;
     let no = Boxed::new(alloc, no)?;
-    Ok(Tree::Divides(form, test.divisor, yes, no))
+    Ok(Tree::Divides(form, divisor, yes, no))
 }
 
 // The answers and one more.

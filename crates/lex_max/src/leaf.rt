@@ -15,7 +15,7 @@ ghost use Rattle.source_tree.specs.Rows.{below_zero, row_forms};
 ghost use Rattle.source_tree.specs.Systems.{after_systems, reader_place, with_rows, Context};
 
 use crate::decide::{Choice, path_to};
-use affine_core::Form;
+use affine_core::KeptForm;
 use difference_graphs::{Graph, Writes, append_from, sum_with_row};
 use int_polyhedra::{Proof, System, Term};
 use plain_data::Items;
@@ -242,12 +242,13 @@ fn push_between(
     Ok(())
 }
 
-fn forms_of(w: &Writes, choices: &[Choice]) -> Result<Items<Form>, AllocError>
+fn forms_of(w: &Writes, choices: &[Choice]) -> Result<Items<KeptForm>, AllocError>
     ensures { IfOk result (λ forms. forms ≡ chosen_place choices.now) }
 {
     let mut forms = Items::new(w.alloc);
     for choice in choices {
-        forms.push(choice.form.copy())?;
+        let form = KeptForm::of(w.alloc, &choice.form)?;
+        forms.push(form)?;
     }
     Ok(forms)
 }

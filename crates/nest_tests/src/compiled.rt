@@ -8,7 +8,7 @@ ghost use Rattle.net_core.specs.Shape.{FitsNumbers};
 ghost use Rattle.process_derive.specs.Derived.{net};
 
 use crate::bound::{Made, is_accepted, make};
-use affine_core::{Form, Vector};
+use affine_core::{Form, KeptForm, Vector};
 use net_core::Network;
 use process_derive::derive;
 use sanlp::{Nest, Points, Tag};
@@ -54,9 +54,9 @@ fn value(form: &Form, at: &[i64]) -> Option<i128> {
 }
 
 // Whether these forms have the values of this point.
-fn have_values(forms: &[Form], at: &[i64], point: &[i64]) -> bool {
+fn have_values(forms: &[KeptForm], at: &[i64], point: &[i64]) -> bool {
     forms.len() == point.len()
-        && forms.iter().zip(point).all(|(form, wanted)| value(form, at)
+        && forms.iter().zip(point).all(|(form, wanted)| value(&form.get(), at)
             == Some(i128::from(*wanted)))
 }
 
@@ -64,7 +64,7 @@ fn have_values(forms: &[Form], at: &[i64], point: &[i64]) -> bool {
 fn leaf<'a>(tree: &'a Tree, at: &[i64]) -> Option<&'a Tree> {
     match tree {
         Tree::Test(form, above, below) => {
-            if value(form.get(), at)? >= 0 {
+            if value(&form.get(), at)? >= 0 {
                 leaf(above.get(), at)
             } else {
                 leaf(below.get(), at)

@@ -3,7 +3,7 @@ ghost use Rattle.std.specs.List.{list_all};
 ghost use Rattle.affine_core.specs.Within.{fits_128_bits};
 ghost use Rattle.tree_text.specs.TreeText.{FormIsInRange, PlaceIsInRange, ProofIsInRange, ProofsAreInRange, TermIsInRange, TreeIsInRange, TreeIsWithin};
 
-use affine_core::Form;
+use affine_core::KeptForm;
 use cert_lines::NESTING_LIMIT;
 use int_polyhedra::{Proof, Term};
 use source_tree::Tree;
@@ -23,14 +23,15 @@ fn numbers_fit(numbers: &[i128])
     }
 }
 
-fn form_fits(form: &Form)
+fn form_fits(form: &KeptForm)
     ensures { FormIsInRange form.now }
 {
+    let form = form.get();
     number_fits(form.constant);
     numbers_fit(form.coefs.as_slice());
 }
 
-fn forms_fit(forms: &[Form])
+fn forms_fit(forms: &[KeptForm])
     ensures { All FormIsInRange forms.now }
 {
     if let Some((form, forms)) = forms.split_first() {
@@ -67,12 +68,11 @@ fn proof_is_within(proof: &Proof, levels: u32) -> bool
         Proof::Cut(divisor, terms, rest) => {
             let divisor = divisor.get();
             let terms = terms.get();
-            number_fits(*divisor);
+            number_fits(divisor);
             terms_fit(terms.as_slice());
             proof_is_within(rest.get(), levels - 1)
         }
         Proof::Split(form, above, below) => {
-            let form = form.get();
             form_fits(form);
             if proof_is_within(above.get(), levels - 1) {
                 proof_is_within(below.get(), levels - 1)
@@ -107,7 +107,7 @@ fn proofs_have_text(proofs: &[Proof]) -> bool
 }
 
 // Whether a text can tell how many forms there are.
-fn place_has_text(statement: u32, place: &[Form]) -> bool
+fn place_has_text(statement: u32, place: &[KeptForm]) -> bool
     ensures { IsTrue result ↔ PlaceIsInRange statement place.now }
 {
     forms_fit(place);
@@ -123,7 +123,6 @@ fn tree_is_within(tree: &Tree, levels: u32) -> bool
     }
     match tree {
         Tree::Test(form, above, below) => {
-            let form = form.get();
             form_fits(form);
             if tree_is_within(above.get(), levels - 1) {
                 tree_is_within(below.get(), levels - 1)
@@ -132,9 +131,9 @@ fn tree_is_within(tree: &Tree, levels: u32) -> bool
             }
         }
         Tree::Divides(form, divisor, above, below) => {
-            let form = form.get();
             form_fits(form);
-            number_fits(*divisor);
+            let divisor = divisor.get();
+            number_fits(divisor);
             if tree_is_within(above.get(), levels - 1) {
                 tree_is_within(below.get(), levels - 1)
             } else {

@@ -18,7 +18,7 @@ use crate::tested::{
     Leaf, Tested, leaf_rule, refusal, test, test_both, test_cell, test_levels, test_outside,
 };
 use crate::verdict::{Rule, TreeVerdict};
-use affine_core::Form;
+use affine_core::{Form, KeptForm, whole_forms};
 use int_polyhedra::Proof;
 use sanlp::{Nest, Statement};
 use source_tree::{Reference, Tree};
@@ -83,8 +83,7 @@ fn check_part(
 {
     match tree {
         Tree::Test(form, yes, no) => {
-            let form = form.get();
-            if form.coefs.len() != vars as usize {
+            if form.variables() != vars as usize {
                 return Ok(Err(Rule::BadForm(leaf)));
             }
             let above = Path::Test(&*path, form, true);
@@ -97,15 +96,15 @@ fn check_part(
             }
         }
         Tree::Divides(form, divisor, yes, no) => {
-            let form = form.get();
+            let divisor = divisor.get();
             let most = read.reference.statement.loops.len() + 6;
-            if form.coefs.len() != vars as usize || *divisor < 2 || vars as usize >= most {
+            if form.variables() != vars as usize || divisor < 2 || vars as usize >= most {
                 return Ok(Err(Rule::BadForm(leaf)));
             }
-            let above = Path::Divides(&*path, form, *divisor, vars, true);
+            let above = Path::Divides(&*path, form, divisor, vars, true);
             match check_part(yes.get(), read, &above, vars + 1, leaf)? {
                 Ok(next) => {
-                    let below = Path::Divides(&*path, form, *divisor, vars, false);
+                    let below = Path::Divides(&*path, form, divisor, vars, false);
                     check_part(no.get(), read, &below, vars + 1, next)
                 }
                 Err(rule) => Ok(Err(rule)),
@@ -258,10 +257,10 @@ fn test_write(
 }
 
 // Whether each form of a map has as many variables as there are.
-fn map_is_over(vars: u32, map: &[Form]) -> bool
+fn map_is_over(vars: u32, map: &[KeptForm]) -> bool
     ensures { result ≡ are_over vars map.now }
 {
-    map.iter().all(|form| form.coefs.len() == vars as usize)
+    map.iter().all(|form| form.variables() == vars as usize)
 }
 
 // A Writer leaf.
@@ -270,7 +269,7 @@ fn check_writer(
     read: &Read,
     leaf: &Leaf,
     number: u32,
-    map: &[Form],
+    map: &[KeptForm],
 ) -> Result<Option<Rule>, AllocError>
     requires read { IsRead read.now }
     requires few { leaf.now.vars ≤ 12 }
@@ -292,7 +291,8 @@ fn check_writer(
     let Some(writer) = write_of(array, number, statement) else {
         return Ok(Some(Rule::NoWriter(leaf.number)));
     };
-    check_map(read, leaf, &writer, map)
+    let forms = whole_forms(read.alloc, map)?;
+    check_map(read, leaf, &writer, forms.as_slice())
 }
 
 // A Writer leaf whose statement writes the array.

@@ -7,7 +7,7 @@ ghost use Rattle.source_tree.specs.Rows.{Take};
 
 use crate::make::Space;
 use crate::path::Path;
-use affine_core::{Form, Row};
+use affine_core::{Form, KeptForm, Row};
 use int_polyhedra::System;
 use plain_data::Items;
 use source_tree::Reference;
@@ -93,14 +93,14 @@ fn with_taken(
 fn with_test(
     space: &Space,
     system: Option<System>,
-    form: &Form,
+    form: &KeptForm,
     yes: bool,
 ) -> Result<Option<System>, AllocError>
     requires { IsMadeOver space.now.vars system }
     ensures { IfOk result
         (λ more. more ≡ system_with_all system (forms_of space.now.vars (test_rows form.now yes))) }
 {
-    let value = space.taken(form);
+    let value = space.taken(&form.get());
     if yes {
         space.with_row(system, value)
     } else {
@@ -112,7 +112,7 @@ fn with_test(
 fn with_quotient(
     space: &Space,
     system: Option<System>,
-    form: &Form,
+    form: &KeptForm,
     divisor: i128,
     quotient: u32,
     yes: bool,
@@ -122,7 +122,7 @@ fn with_quotient(
         (λ more. more ≡ system_with_all system
         (forms_of space.now.vars (quotient_rows quotient form.now divisor yes))) }
 {
-    let value = space.taken(form);
+    let value = space.taken(&form.get());
     let multiple = space.times(divisor, &space.variable(quotient));
     if yes {
         return space.with_equal(system, &value, &multiple);

@@ -1,6 +1,6 @@
 //! What trees give at loop values, worked out here, apart from the crates that are tested.
 
-use affine_core::Form;
+use affine_core::{Form, KeptForm};
 use source_tree::Tree;
 use std::alloc::{AllocError, Global};
 
@@ -20,9 +20,9 @@ fn value(form: &Form, at: &[i64]) -> Option<i128> {
 }
 
 // Whether these forms have the values of this point.
-fn have_values(forms: &[Form], at: &[i64], point: &[i64]) -> bool {
+fn have_values(forms: &[KeptForm], at: &[i64], point: &[i64]) -> bool {
     forms.len() == point.len()
-        && forms.iter().zip(point).all(|(form, wanted)| value(form, at)
+        && forms.iter().zip(point).all(|(form, wanted)| value(&form.get(), at)
             == Some(i128::from(*wanted)))
 }
 
@@ -34,13 +34,13 @@ pub(crate) fn gives(
     wanted: Option<Turn>,
 ) -> Result<bool, AllocError> {
     match tree {
-        Tree::Test(form, above, below) => match value(form.get(), at) {
+        Tree::Test(form, above, below) => match value(&form.get(), at) {
             Some(value) if value >= 0 => gives(alloc, above.get(), at, wanted),
             Some(_) => gives(alloc, below.get(), at, wanted),
             None => Ok(false),
         },
         Tree::Divides(form, divisor, above, below) => {
-            let Some((longer, divides)) = divided(alloc, value(form.get(), at), *divisor, at)?
+            let Some((longer, divides)) = divided(alloc, value(&form.get(), at), divisor.get(), at)?
             else {
                 return Ok(false);
             };

@@ -1,5 +1,5 @@
 -- The node of a tree, by its kind. A tree is of one kind, and its parts are determined: two ways to write it open to
--- one node. A form that is read out of its box is the form that the tree has.
+-- one node. A form or a divisor that is read out of its few bytes is the one that the tree has.
 use Rattle.std.proofs.Common.{◌≡◌, ◌∙◌, ℕ, ℤ, List, sym, ap}
 use Rattle.affine_core.specs.declared.form.Form.{Form}
 use Rattle.int_polyhedra.specs.declared.system.Proof.{Proof}
@@ -25,10 +25,10 @@ node-Dead tree proof e = ap out-Tree e ∙ outs-Dead proof
 pub node_unique : (tree : Tree) (x y : open_.Tree-F Tree) → out-Tree tree ≡ x → out-Tree tree ≡ y → x ≡ y
 node_unique tree x y e h = sym e ∙ h
 
-pub boxed_test : {tree : Tree} {form form' : Form} (a b : Tree) → tree ≡ Test form a b → form' ≡ form
+pub kept_test : {tree : Tree} {form form' : Form} (a b : Tree) → tree ≡ Test form a b → form' ≡ form
     → tree ≡ Test form' a b
-boxed_test {tree} {form} {form'} a b e f = e ∙ ap (λ form. Test form a b) (sym f)
+kept_test {tree} {form} {form'} a b e f = e ∙ ap (λ form. Test form a b) (sym f)
 
-pub boxed_divides : {tree : Tree} {form form' : Form} {d : ℤ} (a b : Tree) → tree ≡ Divides form d a b → form' ≡ form
-    → tree ≡ Divides form' d a b
-boxed_divides {tree} {form} {form'} {d} a b e f = e ∙ ap (λ form. Divides form d a b) (sym f)
+pub kept_divisor : {tree : Tree} {form : Form} {d d' : ℤ} (a b : Tree) → tree ≡ Divides form d a b → d' ≡ d
+    → tree ≡ Divides form d' a b
+kept_divisor {tree} {form} {d} {d'} a b e f = e ∙ ap (λ d. Divides form d a b) (sym f)

@@ -4,7 +4,7 @@ ghost use Rattle.source_tree.specs.Gives.{gives};
 ghost use Rattle.source_tree.specs.Walk.{outcome_of, is_ready, are_over, map_values, mapped_value, AppendsAll, with_quotient, divides};
 
 use crate::tree::{Found, Tree};
-use affine_core::{Coefs, Form, Overflow, Vector};
+use affine_core::{Coefs, KeptForm, Overflow, Vector};
 use sanlp::Point;
 
 /// What the tree gives at these loop values. `Overflow` comes exactly where a form of the path that is taken leaves 128
@@ -35,33 +35,28 @@ fn follow(tree: &Tree, values: &mut Coefs) -> Result<Found, Overflow>
     ensures { result_ok result ≡ outcome_of tree.now values.old }
 {
     match tree {
-        Tree::Test(form, yes, no) => {
-            let form = form.get();
-            match form.eval(values.as_slice()) {
-                Ok(value) => {
-                    if value >= 0 {
-                        follow(yes.get(), values)
-                    } else {
-                        follow(no.get(), values)
-                    }
+        Tree::Test(form, yes, no) => match form.eval(values.as_slice()) {
+            Ok(value) => {
+                if value >= 0 {
+                    follow(yes.get(), values)
+                } else {
+                    follow(no.get(), values)
                 }
-                Err(overflow) => Err(overflow),
             }
-        }
-        Tree::Divides(form, divisor, yes, no) => {
-            let form = form.get();
-            match form.eval(values.as_slice()) {
-                Ok(value) => {
-                    push_quotient(values, value, *divisor);
-                    if is_divided(value, *divisor) {
-                        follow(yes.get(), values)
-                    } else {
-                        follow(no.get(), values)
-                    }
+            Err(overflow) => Err(overflow),
+        },
+        Tree::Divides(form, divisor, yes, no) => match form.eval(values.as_slice()) {
+            Ok(value) => {
+                let divisor = divisor.get();
+                push_quotient(values, value, divisor);
+                if is_divided(value, divisor) {
+                    follow(yes.get(), values)
+                } else {
+                    follow(no.get(), values)
                 }
-                Err(overflow) => Err(overflow),
             }
-        }
+            Err(overflow) => Err(overflow),
+        },
         Tree::Writer(statement, forms, _) => {
             let mut at = Vector::empty(values.allocator());
             match append_mapped(forms.as_slice(), values.as_slice(), &mut at) {
@@ -92,7 +87,7 @@ fn is_divided(value: i128, divisor: i128) -> bool
     value % divisor == 0
 }
 
-fn append_mapped(forms: &[Form], values: &[i128], out: &mut Vector) -> Result<(), Overflow>
+fn append_mapped(forms: &[KeptForm], values: &[i128], out: &mut Vector) -> Result<(), Overflow>
     requires room { length out.old + length forms.now ≤ 6 }
     requires over { IsTrue (are_over (length values.now) forms.now) }
     ensures { AppendsAll result out.old out.new (map_values forms.now values.now) }
@@ -104,7 +99,7 @@ fn append_mapped(forms: &[Form], values: &[i128], out: &mut Vector) -> Result<()
     append_mapped(forms, values, out)
 }
 
-fn mapped_form(form: &Form, values: &[i128]) -> Result<i64, Overflow>
+fn mapped_form(form: &KeptForm, values: &[i128]) -> Result<i64, Overflow>
     requires { length form.now.coefs ≡ length values.now }
     ensures { result_ok result ≡ mapped_value form.now values.now }
 {

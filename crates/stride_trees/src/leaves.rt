@@ -15,7 +15,7 @@ ghost use Rattle.stride_trees.specs.Strides.{depth_of_write, read_of, write_of, 
 
 use crate::convert::{back, converted_place, converted_write, front, sum_terms};
 use crate::strides::Strides;
-use affine_core::Form;
+use affine_core::KeptForm;
 use difference_graphs::test;
 use int_polyhedra::Proof;
 use plain_data::Items;
@@ -145,13 +145,14 @@ fn zero_proofs(
 }
 
 // Adds the forms.
-fn push_forms(out: &mut Items<Form>, forms: &[Form]) -> Result<(), AllocError>
+fn push_forms(out: &mut Items<KeptForm>, forms: &[KeptForm]) -> Result<(), AllocError>
     ensures { OnOk result (out.new ≡ out.old ++ forms.now) }
 {
     let Some((form, forms)) = forms.split_first() else {
         return Ok(());
     };
-    out.push(form.copy())?;
+    let copy = KeptForm::of(out.allocator(), &form.get())?;
+    out.push(copy)?;
     push_forms(out, forms)
 }
 
@@ -161,7 +162,7 @@ fn writer_leaf(
     places: &[u32],
     here: u32,
     statement: u32,
-    place: &[Form],
+    place: &[KeptForm],
     told: &[Proof],
 ) -> Result<Tree, AllocError>
     requires strided { IsStrided s.now }
@@ -221,7 +222,7 @@ pub fn converted_tree(
             let form = form.get();
             let above = converted_tree(s, places, here + 1, yes.get())?;
             match converted_tree(s, places, here + 1, no.get()) {
-                Ok(below) => test(s.alloc, form.copy(), above, below),
+                Ok(below) => test(s.alloc, form, above, below),
                 Err(error) => {
                     drop(above);
                     Err(error)

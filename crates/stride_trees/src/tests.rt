@@ -5,7 +5,7 @@ ghost use Rattle.stride_trees.specs.Strides.{cell_number, depth_of_read, read_of
 use crate::divisions::Division;
 use crate::strides::Strides;
 use crate::undivided::{indivisible, row_above, row_below};
-use affine_core::Form;
+use affine_core::{Form, KeptForm, KeptNumber};
 use int_polyhedra::Proof;
 use plain_data::{Boxed, Items};
 use source_tree::Tree;
@@ -67,10 +67,11 @@ fn divides(
 ) -> Result<Tree, AllocError>
     ensures { IfOk result (λ tree. tree ≡ DividesOf form division.now.divisor yes no) }
 {
-    let form = Boxed::new(alloc, form)?;
+    let form = KeptForm::of(alloc, &form)?;
+    let divisor = KeptNumber::of(alloc, division.divisor)?;
     let yes = Boxed::new(alloc, yes)?;
     let no = Boxed::new(alloc, no)?;
-    Ok(Tree::Divides(form, division.divisor, yes, no))
+    Ok(Tree::Divides(form, divisor, yes, no))
 }
 
 // The Zero leaf below the no of a test: by two Cuts the loop of its subscript is above the quotient, and no greater.

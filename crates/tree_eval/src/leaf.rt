@@ -6,7 +6,7 @@ ghost use Rattle.source_tree.specs.Walk.{map_values};
 ghost use Rattle.tree_eval.specs.Stretches.{AddsLines, AreSmall, IsSmall, found_at, values_at, start_limit, step_limit, turn_limit};
 
 use crate::line::{Line, line_of};
-use affine_core::{Form, Vector};
+use affine_core::{KeptForm, Vector};
 use sanlp::Point;
 use source_tree::Found;
 
@@ -119,7 +119,7 @@ fn append_line(line: Line, starts: &mut Vector, steps: &mut Vector)
 
 /// Adds the lines of a map's forms, if they are small. It answers whether they are.
 pub(crate) fn append_lines(
-    forms: &[Form],
+    forms: &[KeptForm],
     outer: &[i64],
     first: i64,
     starts: &mut Vector,

@@ -3,7 +3,7 @@ ghost use Rattle.affine_core.specs.Within.{combined_in_128_bits, sum_in_128_bits
 ghost use Rattle.tree_eval.specs.Stretches.{IsLine, IsSmallStep, line_at, step_limit};
 
 use crate::forms::add_product;
-use affine_core::Form;
+use affine_core::KeptForm;
 
 /// How a form's value changes along the innermost loop: its value at the first turn, and the step to the next.
 #[derive(Clone, Copy)]
@@ -59,10 +59,11 @@ fn line_from(total: i64, coefs: &[i128], outer: &[i64], first: i64) -> Option<Li
 
 /// The form's values along the innermost loop from its first turn on, if its step is small and the value there needs no
 /// number of more than 64 bits. These are the values of the loops round it.
-pub(crate) fn line_of(form: &Form, outer: &[i64], first: i64) -> Option<Line>
+pub(crate) fn line_of(form: &KeptForm, outer: &[i64], first: i64) -> Option<Line>
     ensures { IfSome result
         (IsLine (λ turn. value_in_128_bits form.now (outer.now ++ (first +ℤ turn) ∷ []))) }
 {
+    let form = form.get();
     let constant = i64::try_from(form.constant).ok()?;
     line_from(constant, form.coefs.as_slice(), outer, first)
 }

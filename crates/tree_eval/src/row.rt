@@ -31,7 +31,6 @@ pub(crate) fn follow_row(
 {
     match tree {
         Tree::Test(form, yes, no) => {
-            let form = form.get();
             let line = line_of(form, outer, first)?;
             let turns = turns_on_side(line, turns);
             if line.value >= 0 {

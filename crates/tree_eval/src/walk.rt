@@ -5,13 +5,12 @@ ghost use Rattle.std.specs.Result.{result_ok};
 ghost use Rattle.source_tree.specs.Gives.{gives};
 ghost use Rattle.source_tree.specs.Walk.{is_ready, map_values, outcome_of};
 
-use crate::forms::narrow_value;
-use affine_core::{Form, Overflow, Vector};
+use affine_core::{KeptForm, Overflow, Vector};
 use sanlp::Point;
 use source_tree::{Found, Tree, eval};
 
 // Adds the values of a map, if no number leaves 64 bits. It answers whether none does.
-fn append_mapped(forms: &[Form], at: &[i64], out: &mut Vector) -> bool
+fn append_mapped(forms: &[KeptForm], at: &[i64], out: &mut Vector) -> bool
     requires { length out.old + length forms.now ≤ 6 }
     ensures { OnTrue result
         (option_map (λ values. out.old ++ values) (map_values forms.now at.now) ≡ Some out.new) }
@@ -19,7 +18,7 @@ fn append_mapped(forms: &[Form], at: &[i64], out: &mut Vector) -> bool
     let Some((form, forms)) = forms.split_first() else {
         return true;
     };
-    let Some(value) = narrow_value(form, at) else {
+    let Some(value) = form.eval_in_64_bits(at) else {
         return false;
     };
     out.push(value);
@@ -33,8 +32,7 @@ fn follow(tree: &Tree, at: &Vector) -> Option<Found>
 {
     match tree {
         Tree::Test(form, yes, no) => {
-            let form = form.get();
-            let value = narrow_value(form, at.as_slice())?;
+            let value = form.eval_in_64_bits(at.as_slice())?;
             if value >= 0 {
                 follow(yes.get(), at)
             } else {

@@ -54,7 +54,7 @@ pub fn proof_behind(alloc: Global, proof: Proof, row: u32, last: u32) -> Result<
         Proof::Cut(divisor, terms, rest) => {
             match proof_behind(alloc, rest.into_inner(), row, last) {
                 Ok(rest) => {
-                    let divisor = divisor.into_inner();
+                    let divisor = divisor.get();
                     let terms = terms_behind(terms.into_inner(), row, last);
                     by_cut(alloc, divisor, terms, rest)
                 }

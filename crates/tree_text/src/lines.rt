@@ -6,26 +6,26 @@ ghost use Rattle.tree_text.specs.Lines.{coefficients as coefficients_of, cut_wor
 ghost use Rattle.tree_text.specs.declared.lines.ProofLine.TheVariants.{Split as SplitLine, Sum as SumLine};
 ghost use Rattle.tree_text.specs.declared.lines.TreeLine.TheVariants.{Test as TestLine};
 
-use affine_core::{Coefs, Form};
+use affine_core::{Coefs, Form, KeptForm};
 use cert_lines::{Fault, Words, both, integer, number};
 use int_polyhedra::Term;
-use plain_data::{Boxed, Items};
+use plain_data::Items;
 use std::alloc::{AllocError, Global};
 
-/// What a line of a proof says, without the proofs that follow it. A form stands in a box, so that a level of a proof
+/// What a line of a proof says, without the proofs that follow it. A form stands in few bytes, so that a level of a proof
 /// takes less stack.
 #[derive(Drop)]
 pub(crate) enum ProofLine {
     Sum(Items<Term>),
     Cut(i128, Items<Term>),
-    Split(Boxed<Form>),
+    Split(KeptForm),
 }
 
 /// What a line of a tree says, without what follows it.
 #[derive(Drop)]
 pub(crate) enum TreeLine {
-    Test(Boxed<Form>),
-    Divides(Boxed<Form>, i128),
+    Test(KeptForm),
+    Divides(KeptForm, i128),
     /// A statement, and how many forms and proofs follow.
     Writer(u32, u32, u32),
     /// How many proofs follow.
@@ -131,17 +131,17 @@ fn sum(terms: Result<Items<Term>, Fault>) -> Result<ProofLine, Fault>
     Ok(ProofLine::Sum(terms?))
 }
 
-/// A form in a box, or want of memory.
-fn boxed(alloc: Global, form: Result<Form, Fault>) -> Result<Result<Boxed<Form>, Fault>, AllocError>
-    ensures { IfOk result (λ boxed. boxed ≡ form) }
+/// A form in few bytes, or want of memory.
+fn kept(alloc: Global, form: Result<Form, Fault>) -> Result<Result<KeptForm, Fault>, AllocError>
+    ensures { IfOk result (λ kept. kept ≡ form) }
 {
     match form {
-        Ok(form) => Ok(Ok(Boxed::new(alloc, form)?)),
+        Ok(form) => Ok(Ok(KeptForm::of(alloc, &form)?)),
         Err(fault) => Ok(Err(fault)),
     }
 }
 
-fn split(form: Result<Boxed<Form>, Fault>) -> Result<ProofLine, Fault>
+fn split(form: Result<KeptForm, Fault>) -> Result<ProofLine, Fault>
     ensures { result ≡ made SplitLine form }
 {
     Ok(ProofLine::Split(form?))
@@ -183,23 +183,20 @@ pub(crate) fn proof_line_of(
         let line = cut_words(alloc, words)?;
         Ok(line)
     } else if word == b"b".as_slice() {
-        let form = boxed(alloc, form(alloc, words))?;
+        let form = kept(alloc, form(alloc, words))?;
         Ok(split(form))
     } else {
         Ok(Err(Fault::Words))
     }
 }
 
-fn test(form: Result<Boxed<Form>, Fault>) -> Result<TreeLine, Fault>
+fn test(form: Result<KeptForm, Fault>) -> Result<TreeLine, Fault>
     ensures { result ≡ made TestLine form }
 {
     Ok(TreeLine::Test(form?))
 }
 
-fn divides(
-    divisor: Result<i128, Fault>,
-    form: Result<Boxed<Form>, Fault>,
-) -> Result<TreeLine, Fault>
+fn divides(divisor: Result<i128, Fault>, form: Result<KeptForm, Fault>) -> Result<TreeLine, Fault>
     ensures { result ≡ made (λ d. TreeLine.Divides d.1 d.0) (judged_together divisor form) }
 {
     let (divisor, form) = both(divisor, form)?;
@@ -213,7 +210,7 @@ fn divides_words(alloc: Global, mut words: Words) -> Result<Result<TreeLine, Fau
     let Some(divisor) = words.next() else {
         return Ok(Err(Fault::Words));
     };
-    let form = boxed(alloc, form(alloc, words))?;
+    let form = kept(alloc, form(alloc, words))?;
     Ok(divides(integer(divisor), form))
 }
 
@@ -267,7 +264,7 @@ pub(crate) fn tree_line_of(
         return Ok(Err(Fault::Words));
     };
     if word == b"t".as_slice() {
-        let form = boxed(alloc, form(alloc, words))?;
+        let form = kept(alloc, form(alloc, words))?;
         Ok(test(form))
     } else if word == b"d".as_slice() {
         let line = divides_words(alloc, words)?;
@@ -283,17 +280,18 @@ pub(crate) fn tree_line_of(
     }
 }
 
-/// What a line of a map says.
-pub(crate) fn map_line_of(alloc: Global, line: &[u8]) -> Result<Form, Fault>
-    ensures { result ≡ map_line (words_of line.now) }
+/// What a line of a map says, or want of memory.
+pub(crate) fn map_line_of(alloc: Global, line: &[u8]) -> Result<Result<KeptForm, Fault>, AllocError>
+    ensures { IfOk result (λ said. said ≡ map_line (words_of line.now)) }
 {
     let mut words = Words::new(line);
     let Some(word) = words.next() else {
-        return Err(Fault::Words);
+        return Ok(Err(Fault::Words));
     };
     if word == b"m".as_slice() {
-        form(alloc, words)
+        let form = kept(alloc, form(alloc, words))?;
+        Ok(form)
     } else {
-        Err(Fault::Words)
+        Ok(Err(Fault::Words))
     }
 }

@@ -7,7 +7,7 @@ ghost use Rattle.tree_text.specs.Lines.{map_line, proof_line, tree_line};
 ghost use Rattle.tree_text.specs.Reading.{dead_behind, proof as proof_part, proof_behind, tree as tree_part, tree_behind, tree_within, writer_behind, zero_behind};
 
 use crate::lines::{ProofLine, TreeLine, map_line_of, proof_line_of, tree_line_of};
-use affine_core::Form;
+use affine_core::{KeptForm, KeptNumber};
 use cert_lines::{CertError, Lines, NESTING_LIMIT};
 use int_polyhedra::{Proof, Term};
 use plain_data::{Boxed, Items};
@@ -43,7 +43,7 @@ fn cut(
 ) -> Result<Boxed<Proof>, AllocError>
     ensures { IfOk result (λ proof. proof ≡ AnyCut divisor terms rest) }
 {
-    let divisor = Boxed::new(alloc, divisor)?;
+    let divisor = KeptNumber::of(alloc, divisor)?;
     let terms = Boxed::new(alloc, terms)?;
     Boxed::new(alloc, Proof::Cut(divisor, terms, rest))
 }
@@ -51,7 +51,7 @@ fn cut(
 #[inline(never)]
 fn split(
     alloc: Global,
-    form: Boxed<Form>,
+    form: KeptForm,
     above: Boxed<Proof>,
     below: Boxed<Proof>,
 ) -> Result<Boxed<Proof>, AllocError>
@@ -63,7 +63,7 @@ fn split(
 #[inline(never)]
 fn test(
     alloc: Global,
-    form: Boxed<Form>,
+    form: KeptForm,
     above: Boxed<Tree>,
     below: Boxed<Tree>,
 ) -> Result<Boxed<Tree>, AllocError>
@@ -75,13 +75,14 @@ fn test(
 #[inline(never)]
 fn divides(
     alloc: Global,
-    form: Boxed<Form>,
+    form: KeptForm,
     divisor: i128,
     above: Boxed<Tree>,
     below: Boxed<Tree>,
 ) -> Result<Boxed<Tree>, AllocError>
     ensures { IfOk result (λ tree. tree ≡ AnyDivides form divisor above below) }
 {
+    let divisor = KeptNumber::of(alloc, divisor)?;
     Boxed::new(alloc, Tree::Divides(form, divisor, above, below))
 }
 
@@ -146,17 +147,18 @@ fn read_proofs(count: u32, alloc: Global, lines: &mut Lines) -> Result<Items<Pro
     Ok(proofs)
 }
 
-fn read_form(alloc: Global, lines: &mut Lines) -> Result<Form, CertError>
+fn read_form(alloc: Global, lines: &mut Lines) -> Result<KeptForm, CertError>
     ensures { Reads result lines.new (one_line map_line lines.old) }
 {
     let Some(line) = lines.next() else {
         return Err(CertError::Truncated);
     };
-    lines.told(map_line_of(alloc, line))
+    let said = map_line_of(alloc, line)?;
+    lines.told(said)
 }
 
 /// Reads the map of a leaf, which has so many forms.
-fn read_place(count: u32, alloc: Global, lines: &mut Lines) -> Result<Items<Form>, CertError>
+fn read_place(count: u32, alloc: Global, lines: &mut Lines) -> Result<Items<KeptForm>, CertError>
     ensures { Reads result lines.new (many (one_line map_line) count lines.old) }
 {
     let mut place = Items::new(alloc);

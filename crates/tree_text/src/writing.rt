@@ -4,7 +4,7 @@ ghost use Rattle.std.specs.List.{flat_map};
 ghost use Rattle.text_out.specs.Wrote.{Wrote};
 ghost use Rattle.tree_text.specs.TreeText.{cut_text, divides_text, form_words, map_text, proof_text, split_text, sum_text, term_words, test_text, tree_text, writer_text, zero_text};
 
-use affine_core::Form;
+use affine_core::KeptForm;
 use int_polyhedra::{Proof, Term};
 use source_tree::Tree;
 use text_out::{TextWriter, Word, write_line, write_number};
@@ -29,10 +29,11 @@ fn write_integers<W: TextWriter>(numbers: &[i128], out: &mut W)
 
 /// Writes a form with a space before each of its numbers.
 #[tactic(auto, using(crate::proofs::LineSpaces::form_steps))]
-fn write_form<W: TextWriter>(form: &Form, out: &mut W)
+fn write_form<W: TextWriter>(form: &KeptForm, out: &mut W)
     ensures { Wrote W.given out.old out.new
         (flat_map (λ word. codes " " ++ word) (form_words form.now)) }
 {
+    let form = form.get();
     write_integer(form.constant, out);
     write_integers(form.coefs.as_slice(), out);
 }
@@ -79,7 +80,7 @@ fn write_cut<W: TextWriter>(divisor: i128, terms: &[Term], out: &mut W)
 }
 
 /// Writes the line of a Split.
-fn write_split<W: TextWriter>(form: &Form, out: &mut W)
+fn write_split<W: TextWriter>(form: &KeptForm, out: &mut W)
     ensures { Wrote W.given out.old out.new (split_text form.now) }
 {
     out.put(b"b");
@@ -96,11 +97,10 @@ fn write_proof<W: TextWriter>(proof: &Proof, out: &mut W)
         Proof::Cut(divisor, terms, rest) => {
             let divisor = divisor.get();
             let terms = terms.get();
-            write_cut(*divisor, terms.as_slice(), out);
+            write_cut(divisor, terms.as_slice(), out);
             write_proof(rest.get(), out);
         }
         Proof::Split(form, above, below) => {
-            let form = form.get();
             write_split(form, out);
             write_proof(above.get(), out);
             write_proof(below.get(), out);
@@ -117,7 +117,7 @@ fn write_proofs<W: TextWriter>(proofs: &[Proof], out: &mut W)
 }
 
 /// Writes the line of a Test. It takes no memory.
-pub fn write_test<W: TextWriter>(form: &Form, out: &mut W)
+pub fn write_test<W: TextWriter>(form: &KeptForm, out: &mut W)
     ensures { Wrote W.given out.old out.new (test_text form.now) }
 {
     out.put(b"t");
@@ -127,7 +127,7 @@ pub fn write_test<W: TextWriter>(form: &Form, out: &mut W)
 
 /// Writes the line of a Divides. It takes no memory.
 #[tactic(auto, using(crate::proofs::LineSpaces::divides_steps))]
-pub fn write_divides<W: TextWriter>(form: &Form, divisor: i128, out: &mut W)
+pub fn write_divides<W: TextWriter>(form: &KeptForm, divisor: i128, out: &mut W)
     ensures { Wrote W.given out.old out.new (divides_text form.now divisor) }
 {
     out.put(b"d");
@@ -150,7 +150,7 @@ fn write_writer<W: TextWriter>(statement: u32, forms: usize, proofs: usize, out:
 }
 
 /// Writes a form of a map.
-fn write_map<W: TextWriter>(form: &Form, out: &mut W)
+fn write_map<W: TextWriter>(form: &KeptForm, out: &mut W)
     ensures { Wrote W.given out.old out.new (map_text form.now) }
 {
     out.put(b"m");
@@ -159,7 +159,7 @@ fn write_map<W: TextWriter>(form: &Form, out: &mut W)
 }
 
 /// Writes the map of a Writer leaf, a line for each form. It takes no memory.
-pub fn write_place<W: TextWriter>(place: &[Form], out: &mut W)
+pub fn write_place<W: TextWriter>(place: &[KeptForm], out: &mut W)
     ensures { Wrote W.given out.old out.new (flat_map map_text place.now) }
 {
     for form in place {
@@ -181,14 +181,13 @@ pub fn write_tree<W: TextWriter>(tree: &Tree, out: &mut W)
 {
     match tree {
         Tree::Test(form, above, below) => {
-            let form = form.get();
             write_test(form, out);
             write_tree(above.get(), out);
             write_tree(below.get(), out);
         }
         Tree::Divides(form, divisor, above, below) => {
-            let form = form.get();
-            write_divides(form, *divisor, out);
+            let divisor = divisor.get();
+            write_divides(form, divisor, out);
             write_tree(above.get(), out);
             write_tree(below.get(), out);
         }

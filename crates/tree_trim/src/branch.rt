@@ -8,7 +8,7 @@ ghost use Rattle.tree_trim.specs.Trees.{branch_or_test, proofs_name, tree_names_
 
 use crate::parts::{Parts, parts_of};
 use crate::refutation::names_row;
-use affine_core::Form;
+use affine_core::{Form, KeptForm, KeptNumber};
 use int_polyhedra::Proof;
 use plain_data::Boxed;
 use source_tree::Tree;
@@ -48,7 +48,7 @@ pub fn tree_names_row(tree: &Tree, row: u32) -> bool
 #[inline(never)]
 fn test(
     alloc: Global,
-    form: Boxed<Form>,
+    form: KeptForm,
     yes: Boxed<Tree>,
     no: Boxed<Tree>,
 ) -> Result<Boxed<Tree>, AllocError>
@@ -60,8 +60,8 @@ fn test(
 #[inline(never)]
 fn divides(
     alloc: Global,
-    form: Boxed<Form>,
-    divisor: i128,
+    form: KeptForm,
+    divisor: KeptNumber,
     yes: Boxed<Tree>,
     no: Boxed<Tree>,
 ) -> Result<Boxed<Tree>, AllocError>

@@ -4,18 +4,18 @@ ghost use Rattle.tree_trim.specs.Parts.{ArePartsOf};
 ghost use Rattle.tree_trim.specs.declared.parts.Parts.TheVariants.{Leaf as LeafOf};
 
 use crate::refutation::proof_without;
-use affine_core::Form;
+use affine_core::{KeptForm, KeptNumber};
 use int_polyhedra::Proof;
 use plain_data::{Boxed, Items};
 use source_tree::Tree;
 use std::alloc::{AllocError, Global};
 
 /// A tree taken apart, once a row of its context is away: a test and its two trees as they were, or a leaf without the row.
-/// All parts stand in boxes, so that a level of a tree takes little of the stack.
+/// All parts stand in boxes or few bytes, so that a level of a tree takes little of the stack.
 #[derive(Drop)]
 pub enum Parts {
-    Test(Boxed<Form>, Boxed<Tree>, Boxed<Tree>),
-    Divides(Boxed<Form>, i128, Boxed<Tree>, Boxed<Tree>),
+    Test(KeptForm, Boxed<Tree>, Boxed<Tree>),
+    Divides(KeptForm, KeptNumber, Boxed<Tree>, Boxed<Tree>),
     Leaf(Boxed<Tree>),
 }
 

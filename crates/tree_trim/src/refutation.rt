@@ -66,8 +66,8 @@ fn terms_without(terms: Items<Term>, row: u32) -> Items<Term>
 }
 
 /// The proof once the row of this number is away: each row behind it has the number before. Where no step names the row, it
-/// refutes the rows without it as it refuted them with it. The terms stay in their own memory; each Cut and Split takes
-/// its boxes anew, but for that of a form.
+/// refutes the rows without it as it refuted them with it. Terms and forms stay in their own memory; each Cut and Split takes
+/// its boxes anew.
 pub fn proof_without(alloc: Global, proof: Proof, row: u32) -> Result<Proof, AllocError>
     ensures { IfOk result (λ other. other ≡ proof_without row proof) }
 {
@@ -75,7 +75,7 @@ pub fn proof_without(alloc: Global, proof: Proof, row: u32) -> Result<Proof, All
         Proof::Sum(terms) => Ok(Proof::Sum(terms_without(terms, row))),
         Proof::Cut(divisor, terms, rest) => match proof_without(alloc, rest.into_inner(), row) {
             Ok(rest) => {
-                let divisor = divisor.into_inner();
+                let divisor = divisor.get();
                 let terms = terms_without(terms.into_inner(), row);
                 by_cut(alloc, divisor, terms, rest)
             }

@@ -7,6 +7,7 @@ use Rattle.std.proofs.lemmas.List.{length_push}
 use Rattle.int_polyhedra.specs.declared.system.Proof.TheVariants.{Sum}
 use Rattle.candidate_join.proofs.LevelCounts.{few_before}
 use Rattle.candidate_order.specs.Candidates.{levels_before, IsCandidate}
+use Rattle.candidate_order.specs.Positions.{IsPointAt}
 use Rattle.candidate_order.specs.Reads.{pair_of}
 use Rattle.candidate_order.specs.Refutations.{IsPointIn, RefutesBetween}
 use Rattle.candidate_order.proofs.Absent.{path_from}
@@ -20,8 +21,8 @@ use Rattle.sanlp.specs.Order.{common_loops}
 use Rattle.source_tree.specs.Systems.{Occurrence}
 use Rattle.candidate_join.proofs.path.exclusions.Goals as goal
 
-pub point_of-place-requires : goal.point_of-place-requires
-point_of-place-requires c = let a = c.requires.asked in a.1.1
+pub point_of-point-requires : goal.point_of-point-requires
+point_of-point-requires c = let a = c.requires.asked in a.1.1
 
 pub loop-level-init : goal.loop-level-init
 loop-level-init c = record {
@@ -41,7 +42,7 @@ pub exclusion-requires-clause-place : goal.exclusion-requires-clause-place
 exclusion-requires-clause-place c =
     let a = c.requires.asked in (
       write_of c.args.best.now.candidate.now.writes,
-      point_is a.0 c.args.context.now c.args.best.now c.point_of-place.result.now a.1.0 c.point_of-place.ensures,
+      point_is a.0 c.args.context.now c.args.best.now c.as_slice-place.result.now a.1.0 (subst (IsPointAt c.args.best.now) (sym (c.as_slice-place.ensures ∙ c.in_ok-forms.ensures)) c.point_of-point.ensures),
     )
 
 pub exclusion-requires-clause-level : goal.exclusion-requires-clause-level
@@ -59,7 +60,7 @@ pub loop-level-preserved : goal.loop-level-preserved
 loop-level-preserved c =
     let w = write_of c.args.best.now.candidate.now.writes in
     let candidate = c.args.candidate.now in
-    let place = c.point_of-place.result.now in
+    let place = c.as_slice-place.result.now in
     let level = c.loop-level.level in
     let common_is = c.common_loops-common.ensures.value
     ∙ ap (λ loops. common_loops loops c.as_slice.result.now) c.as_slice-loops.ensures
@@ -85,11 +86,11 @@ returns c = λ r place e best is point level_is sums_is.
     let context = c.args.context.now in
     let w = write_of c.args.best.now.candidate.now.writes in
     let candidate = c.args.candidate.now in
-    let own = c.point_of-place.result.now in
-    let same : own ≡ place = same_point c.args.best.now own place c.point_of-place.ensures point in
+    let own = c.as_slice-place.result.now in
+    let same : own ≡ place = same_point c.args.best.now own place (subst (IsPointAt c.args.best.now) (sym (c.as_slice-place.ensures ∙ c.in_ok-forms.ensures)) c.point_of-point.ensures) point in
     let last : c.loop-level.level ≡ levels_before w (write_of candidate.writes) =
     omega (arith, c.level_count-level-end.ensures) in
-    let own_in = point_is r context c.args.best.now own best.0 c.point_of-place.ensures in
+    let own_in = point_is r context c.args.best.now own best.0 (subst (IsPointAt c.args.best.now) (sym (c.as_slice-place.ensures ∙ c.in_ok-forms.ensures)) c.point_of-point.ensures) in
     record {
       all = ap length sums_is ∙ c.loop-level.invariant.count ∙ last;
       each = λ q ts there.

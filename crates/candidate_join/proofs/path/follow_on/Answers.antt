@@ -18,7 +18,7 @@ use Rattle.candidate_join.proofs.NoCandidate.{zero_sum}
 use Rattle.int_polyhedra.specs.declared.system.Proof.TheVariants.{Sum}
 use Rattle.difference_graphs.specs.Paths.{term_of}
 use Rattle.source_tree.specs.declared.tree.Tree.TheVariants.{Zero}
-use Rattle.source_tree.proofs.Views.{boxed_test}
+use Rattle.source_tree.proofs.Views.{kept_test}
 use Rattle.candidate_join.proofs.path.follow_on.Goals as goal
 
 pub follow-requires-clause-context : goal.follow-requires-clause-context
@@ -53,31 +53,29 @@ ask-requires-clause-sides c =
     c.in_ok-below-in-Test.ensures.rows ∙ ap (λ xs. xs ++ (term_of c.len-here.result ∷ []) ∷ []) c.as_slice-in-Test.ensures
     ∙ ap (λ n. rows ++ (term_of n ∷ []) ∷ []) c.len-here.ensures in
     let is_node = c.in_ok-node.ensures.node candidate c.requires.1.1.node in
-    let sides = followed_sides r context candidate node.now rows c.get-form.result.now c.in-Test.yes c.in-Test.no
-    (boxed_test c.in-Test.yes c.in-Test.no c.in-Test.is c.get-form.ensures)
+    let sides = followed_sides r context candidate node.now rows c.get-form.result c.in-Test.yes c.in-Test.no
+    (kept_test c.in-Test.yes c.in-Test.no c.in-Test.is c.get-form.ensures)
     c.requires.1.1.candidate is_node above below c.in_ok-above-in-Test.ensures.candidate c.in_ok-below-in-Test.ensures.candidate
     (c.in_ok-above-in-Test.ensures.node ∙ c.get.ensures) (c.in_ok-below-in-Test.ensures.node ∙ c.get-in-Test.ensures) rows_above rows_below in
-    let test = followed_form r context candidate node.now rows c.get-form.result.now c.in-Test.yes c.in-Test.no
-    (boxed_test c.in-Test.yes c.in-Test.no c.in-Test.is c.get-form.ensures)
+    let test = followed_form r context candidate node.now rows c.get-form.result c.in-Test.yes c.in-Test.no
+    (kept_test c.in-Test.yes c.in-Test.no c.in-Test.is c.get-form.ensures)
     c.requires.1.1.candidate is_node in
-    let low = height_sides node.now c.get-form.result.now c.in-Test.yes c.in-Test.no
-    (boxed_test c.in-Test.yes c.in-Test.no c.in-Test.is c.get-form.ensures) in
-    let form_is = c.copy.ensures in
+    let low = height_sides node.now c.get-form.result c.in-Test.yes c.in-Test.no
+    (kept_test c.in-Test.yes c.in-Test.no c.in-Test.is c.get-form.ensures) in
     let low_above : height_of above.node.now < height_of at.node.now =
     omega (arith, ap height_of (c.in_ok-above-in-Test.ensures.node ∙ c.get.ensures), low.0, c.in_ok-node.ensures.lower) in
     let low_below : height_of below.node.now < height_of at.node.now =
     omega (arith, ap height_of (c.in_ok-below-in-Test.ensures.node ∙ c.get-in-Test.ensures), low.1, c.in_ok-node.ensures.lower) in
-    subst (λ form. AreSides task walk form (Follow above) (Follow below)) (sym form_is)
     (record {
       test = test;
       above = ready_side r task.candidates.now context walk.seen walk.left (Follow at) (Follow above)
-          c.get-form.result.now path
+          c.get-form.result path
           (omega (arith, low_above)) (ap Some c.in_ok-above-in-Test.ensures.candidate) test.over
-          (above_within context c.get-form.result.now test) sides.0;
+          (above_within context c.get-form.result test) sides.0;
       below = λ other negated. ready_side r task.candidates.now context walk.seen walk.left (Follow at) (Follow below) other
           path (omega (arith, low_below)) (ap Some c.in_ok-below-in-Test.ensures.candidate)
-          (below_over context c.get-form.result.now other test negated)
-          (below_within context c.get-form.result.now other test negated)
+          (below_over context c.get-form.result other test negated)
+          (below_within context c.get-form.result other test negated)
           (sides.1 other negated);
     })
 
@@ -86,8 +84,8 @@ returns-in-Test c =
     let at = c.args.at in
     let n = length c.args.walk.now.left in
     let node = c.in_ok-node.field-0.node in
-    let low = height_sides node.now c.get-form.result.now c.in-Test.yes c.in-Test.no
-    (boxed_test c.in-Test.yes c.in-Test.no c.in-Test.is c.get-form.ensures) in
+    let low = height_sides node.now c.get-form.result c.in-Test.yes c.in-Test.no
+    (kept_test c.in-Test.yes c.in-Test.no c.in-Test.is c.get-form.ensures) in
     let above = c.in_ok-above-in-Test.above in
     let below = c.in_ok-below-in-Test.below in
     let low_above : height_of above.node.now < height_of at.node.now =

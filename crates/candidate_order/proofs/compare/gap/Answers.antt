@@ -12,25 +12,29 @@ use Rattle.plain_data.proofs.Lists.{All-slice_get}
 pub difference-requires-clause-over : goal.difference-requires-clause-over
 difference-requires-clause-over c =
     let k = c.requires.forms in
-    All-slice_get (λ (form : Form). length form.coefs ≡ k.0) c.args.first.now c.args.at c.index-first-at.result k.1.over
+    ap (λ (form : Form). length form.coefs) c.get-less.ensures
+    ∙ All-slice_get (λ (form : Form). length form.coefs ≡ k.0) c.args.first.now c.args.at c.index-first-at.result k.1.over
     (slice_get_read c.args.first.now (length c.args.first.now) c.args.at c.index-first-at.result refl c.requires.first c.index-first-at.is)
     ∙ sym (All-slice_get
     (λ (form : Form). length form.coefs ≡ k.0) c.args.second.now c.args.at c.index-second-at.result k.2.over
     (slice_get_read c.args.second.now (length c.args.second.now) c.args.at c.index-second-at.result refl c.requires.second c.index-second-at.is))
+    ∙ sym (ap (λ (form : Form). length form.coefs) c.get-more.ensures)
 
 pub difference-requires-clause-first : goal.difference-requires-clause-first
 difference-requires-clause-first c =
     let k = c.requires.forms in
-    IsWithin-weaker (2 ^ 48) (2 ^ 60) c.index-first-at.result (omega arith)
+    subst (IsWithin (2 ^ 60)) (sym c.get-less.ensures)
+    (IsWithin-weaker (2 ^ 48) (2 ^ 60) c.index-first-at.result (omega arith)
     (All-slice_get (IsWithin (2 ^ 48)) c.args.first.now c.args.at c.index-first-at.result k.1.within
-    (slice_get_read c.args.first.now (length c.args.first.now) c.args.at c.index-first-at.result refl c.requires.first c.index-first-at.is))
+    (slice_get_read c.args.first.now (length c.args.first.now) c.args.at c.index-first-at.result refl c.requires.first c.index-first-at.is)))
 
 pub difference-requires-clause-second : goal.difference-requires-clause-second
 difference-requires-clause-second c =
     let k = c.requires.forms in
-    IsWithin-weaker (2 ^ 48) (2 ^ 60) c.index-second-at.result (omega arith)
+    subst (IsWithin (2 ^ 60)) (sym c.get-more.ensures)
+    (IsWithin-weaker (2 ^ 48) (2 ^ 60) c.index-second-at.result (omega arith)
     (All-slice_get (IsWithin (2 ^ 48)) c.args.second.now c.args.at c.index-second-at.result k.2.within
-    (slice_get_read c.args.second.now (length c.args.second.now) c.args.at c.index-second-at.result refl c.requires.second c.index-second-at.is))
+    (slice_get_read c.args.second.now (length c.args.second.now) c.args.at c.index-second-at.result refl c.requires.second c.index-second-at.is)))
 
 pub returns : goal.returns
 returns c = λ vars f g.
@@ -40,7 +44,7 @@ returns c = λ vars f g.
     slice_get_read first (length first) c.args.at c.index-first-at.result refl c.requires.first c.index-first-at.is in
     let b_is : slice_get second c.args.at ≡ Some c.index-second-at.result =
     slice_get_read second (length second) c.args.at c.index-second-at.result refl c.requires.second c.index-second-at.is in
-    subst (IsGap vars first second c.args.at) (sym c.difference.ensures)
+    subst (IsGap vars first second c.args.at) (sym (rw (c.get-less.ensures, c.get-more.ensures) at c.difference.ensures))
     (gap_is vars first second c.args.at c.index-first-at.result c.index-second-at.result a_is b_is
     (All-slice_get (λ (form : Form). length form.coefs ≡ vars) first c.args.at c.index-first-at.result f.over a_is)
     (All-slice_get (λ (form : Form). length form.coefs ≡ vars) second c.args.at c.index-second-at.result g.over b_is)

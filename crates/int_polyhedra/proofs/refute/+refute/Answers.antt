@@ -22,14 +22,14 @@ refute-requires t c = (
     c.requires.short,
     chain_over _ _ _ c.requires.over
         (cut_over c.args.vars (rows_of c.args.rows.now)
-        (to_z w128 (of_z w128 c.get-divisor.result.now)) c.as_slice-in-Cut.result.now c.in-Ok.row c.requires.over
+        (to_z w128 (of_z w128 c.get-divisor.result)) c.as_slice-in-Cut.result.now c.in-Ok.row c.requires.over
         c.in-Ok.ensures),
   ),
 )
 
 pub returns-in-Ok : goal.returns-in-Ok
 returns-in-Ok t c =
-    let divisor = c.get-divisor.result.now in
+    let divisor = c.get-divisor.result in
     let fits : FitsSigned w128 divisor = search rules in
     at_cut_ok c.args.vars
     (rows_of c.args.rows.now) c.args.proof.now c.in-Cut.divisor _ c.in-Cut.terms c.as_slice-in-Cut.result.now
@@ -40,7 +40,7 @@ returns-in-Ok t c =
 
 pub returns-in-Cut : goal.returns-in-Cut
 returns-in-Cut t c =
-    let divisor = c.get-divisor.result.now in
+    let divisor = c.get-divisor.result in
     let fits : FitsSigned w128 divisor = search rules in
     at_cut_err c.args.vars
     (rows_of c.args.rows.now) c.args.proof.now c.in-Cut.divisor _ c.in-Cut.terms c.as_slice-in-Cut.result.now
@@ -54,7 +54,7 @@ refute-requires-in-Ok-split t c = (
   (
     c.requires.short,
     chain_over _ _ _ c.requires.over
-        (split_over c.args.vars c.get-form.result.now c.in-Ok-split.other c.in-Ok-split.ensures).0,
+        (split_over c.args.vars c.get-form.result c.in-Ok-split.other c.in-Ok-split.ensures).0,
   ),
 )
 
@@ -64,14 +64,14 @@ refute-requires-in-Ok-refute t c = (
   (
     c.requires.short,
     chain_over _ _ _ c.requires.over
-        (split_over c.args.vars c.get-form.result.now c.in-Ok-split.other c.in-Ok-split.ensures).1,
+        (split_over c.args.vars c.get-form.result c.in-Ok-split.other c.in-Ok-split.ensures).1,
   ),
 )
 
 pub returns-in-Ok-refute : goal.returns-in-Ok-refute
 returns-in-Ok-refute t c =
     at_split_ok c.args.vars
-    (rows_of c.args.rows.now) c.args.proof.now c.get-form.result.now c.in-Split.yes c.get-in-Ok-split.result.now
+    (rows_of c.args.rows.now) c.args.proof.now c.get-form.result c.in-Split.yes c.get-in-Ok-split.result.now
     c.in-Split.no
     c.get-in-Ok-refute.result.now c.in-Ok-split.other _ _ _
     (boxed_split c.in-Split.yes c.in-Split.no c.in-Split.is c.get-form.ensures)
@@ -82,7 +82,7 @@ returns-in-Ok-refute t c =
 pub returns-in-Ok-split : goal.returns-in-Ok-split
 returns-in-Ok-split t c =
     at_split c.args.vars
-    (rows_of c.args.rows.now) c.args.proof.now c.get-form.result.now c.in-Split.yes c.get-in-Ok-split.result.now
+    (rows_of c.args.rows.now) c.args.proof.now c.get-form.result c.in-Split.yes c.get-in-Ok-split.result.now
     c.in-Split.no
     c.in-Ok-split.other _ (Some c.in-Err-refute.reason)
     (boxed_split c.in-Split.yes c.in-Split.no c.in-Split.is c.get-form.ensures)
@@ -92,5 +92,5 @@ returns-in-Ok-split t c =
 pub returns : goal.returns
 returns t c =
     at_split_err c.args.vars
-    (rows_of c.args.rows.now) c.args.proof.now c.get-form.result.now c.in-Split.yes c.in-Split.no c.in-Err-split.reason
+    (rows_of c.args.rows.now) c.args.proof.now c.get-form.result c.in-Split.yes c.in-Split.no c.in-Err-split.reason
     (boxed_split c.in-Split.yes c.in-Split.no c.in-Split.is c.get-form.ensures) c.in-Err-split.ensures

@@ -4,7 +4,7 @@ use Rattle.last_writer.specs.Leaves.{Converts, IsJoinedBelow}
 use Rattle.last_writer.specs.declared.leaves.Open.TheVariants.{First}
 use Rattle.last_writer.specs.declared.leaves.Part.TheVariants.{Joined}
 use Rattle.last_writer.proofs.Opens.{at_leaf, down_test, low_at}
-use Rattle.source_tree.proofs.Views.{boxed_test}
+use Rattle.source_tree.proofs.Views.{kept_test}
 use Rattle.last_writer.proofs.leaves.down.Goals as goal
 
 pub returns-in-Ok : goal.returns-in-Ok
@@ -13,10 +13,10 @@ returns-in-Ok c = λ whole h.
     let all = c.push.new.self in
     subst (λ tree. IsConverting c.args.w.now c.args.rows whole all (Joined tree)
     × (turns_left all (Joined tree) < turns_left opens (Joined c.args.tree))) (sym c.into_inner.ensures)
-    (down_test c.args.w.now c.args.rows whole opens all c.args.tree c.into_inner-form.result c.in-Test.yes
+    (down_test c.args.w.now c.args.rows whole opens all c.args.tree c.get-form.result c.in-Test.yes
     c.in-Test.no h
-    (boxed_test c.in-Test.yes c.in-Test.no c.in-Test.is c.into_inner-form.ensures)
-    (c.in-Ok.ensures.ok ∙ ap (λ below. opens ++ First c.into_inner-form.result below ∷ []) c.into_inner-no.ensures))
+    (kept_test c.in-Test.yes c.in-Test.no c.in-Test.is c.get-form.ensures)
+    (c.in-Ok.ensures.ok ∙ ap (λ below. opens ++ First c.get-form.result below ∷ []) c.into_inner-no.ensures))
 
 pub overflow_cast-here : goal.overflow_cast-here
 overflow_cast-here c =

@@ -10,7 +10,7 @@ loop-choice-preserved c =
     let i = c.loop-choice.choice-index in
     let item = c.choice-item.result in
     let inside : i < length choices = omega arith in
-    c.in_ok-push.ensures.ok ∙ ap (λ forms. forms ++ c.copy.result ∷ []) c.loop-choice.invariant
-    ∙ ap (λ form. chosen_place (take i choices) ++ form ∷ []) c.copy.ensures
+    c.in_ok-push.ensures.ok ∙ ap (λ forms. forms ++ c.in_ok-form.form ∷ []) c.loop-choice.invariant
+    ∙ ap (λ form. chosen_place (take i choices) ++ form ∷ []) c.in_ok-form.ensures
     ∙ sym (map_more (λ (choice : Choice). choice.form) choices i item inside
     ∙ ap (λ (choice : Choice). chosen_place (take i choices) ++ choice.form ∷ []) (sym c.choice-item.is))

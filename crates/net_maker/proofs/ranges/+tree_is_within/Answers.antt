@@ -2,7 +2,7 @@ use Rattle.std.proofs.Common.{FitsSigned, rules, arith}
 use Rattle.std.specs.Int.{w128}
 use Rattle.std.proofs.lemmas.Int.{to_z-of_z}
 use Rattle.net_maker.proofs.Levels.{dead_is, divides_is, else_is, same_is, test_is, then_is, tree_ended, writer_is, zero_is}
-use Rattle.source_tree.proofs.Views.{boxed_divides, boxed_test}
+use Rattle.source_tree.proofs.Views.{kept_divisor}
 use Rattle.net_maker.proofs.ranges.+tree_is_within.Goals as goal
 
 pub returns-then-levels-eq0 : goal.returns-then-levels-eq0
@@ -10,8 +10,8 @@ returns-then-levels-eq0 t c = tree_ended c.args.levels c.args.tree.now c.if-leve
 
 pub returns-then-tree_is_within : goal.returns-then-tree_is_within
 returns-then-tree_is_within t c =
-    let step = test_is c.args.levels c.args.tree.now (omega arith) c.get-form.result.now c.in-Test.above c.in-Test.below
-    (boxed_test c.in-Test.above c.in-Test.below c.in-Test.is c.get-form.ensures) in
+    let step = test_is c.args.levels c.args.tree.now (omega arith) c.in-Test.form c.in-Test.above c.in-Test.below
+    c.in-Test.is in
     then_is c.tree_is_within.result c.tree_is_within-then-tree_is_within.result
     (rw c.get.ensures at c.tree_is_within.ensures)
     (rw c.get-then-tree_is_within.ensures at c.tree_is_within-then-tree_is_within.ensures)
@@ -19,18 +19,18 @@ returns-then-tree_is_within t c =
 
 pub returns-else-tree_is_within : goal.returns-else-tree_is_within
 returns-else-tree_is_within t c =
-    let step = test_is c.args.levels c.args.tree.now (omega arith) c.get-form.result.now c.in-Test.above c.in-Test.below
-    (boxed_test c.in-Test.above c.in-Test.below c.in-Test.is c.get-form.ensures) in
+    let step = test_is c.args.levels c.args.tree.now (omega arith) c.in-Test.form c.in-Test.above c.in-Test.below
+    c.in-Test.is in
     else_is c.tree_is_within.result (rw c.get.ensures at c.tree_is_within.ensures) c.if-tree_is_within.false
     (λ p. (step.0 p).1)
 
 pub returns-then-tree_is_within-2 : goal.returns-then-tree_is_within-2
 returns-then-tree_is_within-2 t c =
-    let step = divides_is c.args.levels c.args.tree.now (omega arith) c.get-form-in-Divides.result.now
-    c.in-Divides.divisor
+    let step = divides_is c.args.levels c.args.tree.now (omega arith) c.in-Divides.form
+    c.get-divisor.result
     c.in-Divides.above c.in-Divides.below
-    (boxed_divides c.in-Divides.above c.in-Divides.below c.in-Divides.is c.get-form-in-Divides.ensures) in
-    let fits : FitsSigned w128 c.in-Divides.divisor = search rules in
+    (kept_divisor c.in-Divides.above c.in-Divides.below c.in-Divides.is c.get-divisor.ensures) in
+    let fits : FitsSigned w128 c.get-divisor.result = search rules in
     then_is c.tree_is_within-in-Divides.result c.tree_is_within-then-tree_is_within-2.result
     (rw c.get-in-Divides.ensures at c.tree_is_within-in-Divides.ensures)
     (rw c.get-then-tree_is_within-2.ensures at c.tree_is_within-then-tree_is_within-2.ensures)
@@ -39,10 +39,10 @@ returns-then-tree_is_within-2 t c =
 
 pub returns-else-tree_is_within-2 : goal.returns-else-tree_is_within-2
 returns-else-tree_is_within-2 t c =
-    let step = divides_is c.args.levels c.args.tree.now (omega arith) c.get-form-in-Divides.result.now
-    c.in-Divides.divisor
+    let step = divides_is c.args.levels c.args.tree.now (omega arith) c.in-Divides.form
+    c.get-divisor.result
     c.in-Divides.above c.in-Divides.below
-    (boxed_divides c.in-Divides.above c.in-Divides.below c.in-Divides.is c.get-form-in-Divides.ensures) in
+    (kept_divisor c.in-Divides.above c.in-Divides.below c.in-Divides.is c.get-divisor.ensures) in
     else_is c.tree_is_within-in-Divides.result
     (rw c.get-in-Divides.ensures at c.tree_is_within-in-Divides.ensures) c.if-tree_is_within-2.false
     (λ p. (step.0 p).1)

@@ -54,4 +54,4 @@ returns c =
     (Some (occurrence_of c.in-Some-write_of.writer))
     (ap (λ (ctx : Context). are_over ctx.vars c.args.map.now) e ∙ sym c.map_is_over.ensures
     ∙ c.if-not-map_is_over.false) (sym c.in-Some.ensures.value)
-    (c.if-map-len.false ∙ c.len.ensures) c.in-Some-write_of.ensures) c.check_map.ensures
+    (c.if-map-len.false ∙ c.len.ensures) c.in-Some-write_of.ensures) (rw (c.as_slice.ensures, c.in_ok-forms.ensures) at c.check_map.ensures)

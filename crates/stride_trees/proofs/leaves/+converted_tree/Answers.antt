@@ -1,5 +1,5 @@
 -- Each branch of a Test is made in its own context, which has one row more; a leaf is made at once.
-use Rattle.std.proofs.Common.{◌+◌, sym, subst, rules}
+use Rattle.std.proofs.Common.{◌+◌, refl, sym, subst, rules}
 use Rattle.std.proofs.lemmas.Result.{IfOk-weaker}
 use Rattle.difference_graphs.specs.Simple.{IsSimple}
 use Rattle.difference_graphs.specs.Systems.{IsCheckedFor}
@@ -8,7 +8,7 @@ use Rattle.stride_trees.specs.Contexts.{IsConvertedTree}
 use Rattle.stride_trees.specs.Problem.{told_read, told_write}
 use Rattle.stride_trees.specs.Strides.{read_of, write_of}
 use Rattle.stride_trees.proofs.LeafConversion.{branches_made, test_made}
-use Rattle.source_tree.proofs.Views.{boxed_test}
+use Rattle.source_tree.proofs.Views.{kept_test}
 use Rattle.stride_trees.proofs.leaves.+converted_tree.Goals as goal
 
 pub converted_tree-requires : goal.converted_tree-requires
@@ -16,9 +16,9 @@ converted_tree-requires t c =
     let s = c.args.s.now in
     let h = c.requires.checked in
     let m = c.requires.simple in
-    let b = branches_made s c.args.places.now c.args.here h.0 m.0 c.args.tree.now c.get-form.result.now c.in-Test.yes
+    let b = branches_made s c.args.places.now c.args.here h.0 m.0 c.args.tree.now c.get-form.result c.in-Test.yes
     c.in-Test.no
-    (boxed_test c.in-Test.yes c.in-Test.no c.in-Test.is c.get-form.ensures) h.1 h.2 m.1 m.2 in (
+    (kept_test c.in-Test.yes c.in-Test.no c.in-Test.is c.get-form.ensures) h.1 h.2 m.1 m.2 in (
       search (rules, the_lemmas),
       (
         c.requires.strided,
@@ -42,9 +42,9 @@ converted_tree-requires-in-Test t c =
     let s = c.args.s.now in
     let h = c.requires.checked in
     let m = c.requires.simple in
-    let b = branches_made s c.args.places.now c.args.here h.0 m.0 c.args.tree.now c.get-form.result.now c.in-Test.yes
+    let b = branches_made s c.args.places.now c.args.here h.0 m.0 c.args.tree.now c.get-form.result c.in-Test.yes
     c.in-Test.no
-    (boxed_test c.in-Test.yes c.in-Test.no c.in-Test.is c.get-form.ensures) h.1 h.2 m.1 m.2 in (
+    (kept_test c.in-Test.yes c.in-Test.no c.in-Test.is c.get-form.ensures) h.1 h.2 m.1 m.2 in (
       search (rules, the_lemmas),
       (
         c.requires.strided,
@@ -68,11 +68,11 @@ returns-in-Ok t c =
     let s = c.args.s.now in
     let m = c.requires.simple in
     IfOk-weaker c.test.result _ _
-    (λ own is. test_made s c.args.places.now c.args.here c.args.tree.now c.get-form.result.now c.copy.result
+    (λ own is. test_made s c.args.places.now c.args.here c.args.tree.now c.get-form.result c.get-form.result
     c.in-Test.yes
     c.in-Test.no c.in_ok-above-in-Test.above c.in-Ok.below own m.0
-    (boxed_test c.in-Test.yes c.in-Test.no c.in-Test.is c.get-form.ensures)
-    c.copy.ensures
+    (kept_test c.in-Test.yes c.in-Test.no c.in-Test.is c.get-form.ensures)
+    refl
     (subst (λ told. IsConvertedTree s c.args.places.now (c.args.here + 1) told c.in_ok-above-in-Test.above) c.get.ensures
     c.in_ok-above-in-Test.ensures)
     (subst (λ told. IsConvertedTree s c.args.places.now (c.args.here + 1) told c.in-Ok.below) c.get-in-Test.ensures

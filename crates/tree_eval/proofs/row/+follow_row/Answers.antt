@@ -6,7 +6,6 @@ use Rattle.source_tree.proofs.WalkOutcomes.{ready_test, ready_writer, writer_som
 use Rattle.tree_eval.specs.declared.leaf.Leaf.TheVariants.{Writer, Zero, Dead}
 use Rattle.tree_eval.specs.Stretches.{values_at}
 use Rattle.tree_eval.proofs.Rows.{leaf_row, test_row}
-use Rattle.source_tree.proofs.Views.{boxed_test}
 use Rattle.tree_eval.proofs.row.+follow_row.Goals as goal
 
 pub follow_row-requires : goal.follow_row-requires
@@ -17,9 +16,9 @@ follow_row-requires t c = (
       c.requires.ready.0,
       c.requires.ready.1,
       ap (λ p. is_ready c.requires.ready.0 p c.requires.ready.1) c.get.ensures
-          ∙ (ready_test c.requires.ready.0 c.requires.ready.1 c.args.tree.now c.get-form.result.now c.in-Test.yes
+          ∙ (ready_test c.requires.ready.0 c.requires.ready.1 c.args.tree.now c.in-Test.form c.in-Test.yes
           c.in-Test.no
-          (boxed_test c.in-Test.yes c.in-Test.no c.in-Test.is c.get-form.ensures) c.requires.ready.2).1,
+          c.in-Test.is c.requires.ready.2).1,
     ),
     (omega (arith, ints), omega (arith, ints)),
   ),
@@ -33,9 +32,9 @@ follow_row-requires-else-line-ge0 t c = (
       c.requires.ready.0,
       c.requires.ready.1,
       ap (λ p. is_ready c.requires.ready.0 p c.requires.ready.1) c.get-else-line-ge0.ensures
-          ∙ (ready_test c.requires.ready.0 c.requires.ready.1 c.args.tree.now c.get-form.result.now c.in-Test.yes
+          ∙ (ready_test c.requires.ready.0 c.requires.ready.1 c.args.tree.now c.in-Test.form c.in-Test.yes
           c.in-Test.no
-          (boxed_test c.in-Test.yes c.in-Test.no c.in-Test.is c.get-form.ensures) c.requires.ready.2).2,
+          c.in-Test.is c.requires.ready.2).2,
     ),
     (omega (arith, ints), omega (arith, ints)),
   ),
@@ -57,10 +56,10 @@ returns-then-line-ge0 t c =
     let all : FitsSigned w64 c.args.turns = c.ranges.turns in
     let turns : FitsSigned w64 c.turns_on_side-turns.result = search rules in
     let value : FitsSigned w64 c.in_ok-line-in-Test.line.value = search rules in
-    test_row c.args.tree.now c.get-form.result.now c.in-Test.yes c.in-Test.no c.get.result.now c.args.outer.now
+    test_row c.args.tree.now c.in-Test.form c.in-Test.yes c.in-Test.no c.get.result.now c.args.outer.now
     c.args.first
     c.args.turns c.turns_on_side-turns.result c.in_ok-line-in-Test.line true c.follow_row.result
-    (boxed_test c.in-Test.yes c.in-Test.no c.in-Test.is c.get-form.ensures)
+    c.in-Test.is
     (simp to_z-of_z at c.in_ok-line-in-Test.ensures) (omega (arith, ints)) c.requires.few
     c.turns_on_side-turns.ensures.side (simp to_z-of_z at c.if-line-ge0.true) c.get.ensures
     (simp to_z-of_z at c.follow_row.ensures)
@@ -71,10 +70,10 @@ returns-else-line-ge0 t c =
     let all : FitsSigned w64 c.args.turns = c.ranges.turns in
     let turns : FitsSigned w64 c.turns_on_side-turns.result = search rules in
     let value : FitsSigned w64 c.in_ok-line-in-Test.line.value = search rules in
-    test_row c.args.tree.now c.get-form.result.now c.in-Test.yes c.in-Test.no c.get-else-line-ge0.result.now
+    test_row c.args.tree.now c.in-Test.form c.in-Test.yes c.in-Test.no c.get-else-line-ge0.result.now
     c.args.outer.now
     c.args.first c.args.turns c.turns_on_side-turns.result c.in_ok-line-in-Test.line false
-    c.follow_row-else-line-ge0.result (boxed_test c.in-Test.yes c.in-Test.no c.in-Test.is c.get-form.ensures)
+    c.follow_row-else-line-ge0.result c.in-Test.is
     (simp to_z-of_z at c.in_ok-line-in-Test.ensures)
     (omega (arith, ints)) c.requires.few c.turns_on_side-turns.ensures.side (simp to_z-of_z at c.if-line-ge0.false)
     c.get-else-line-ge0.ensures (simp to_z-of_z at c.follow_row-else-line-ge0.ensures)

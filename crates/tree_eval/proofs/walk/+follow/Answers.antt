@@ -4,7 +4,6 @@ use Rattle.source_tree.specs.declared.tree.Tree.TheViews.{the_lemmas}
 use Rattle.source_tree.specs.Walk.{is_ready}
 use Rattle.source_tree.proofs.WalkOutcomes.{ready_test, ready_writer, writer_some, walked_zero, walked_dead}
 use Rattle.tree_eval.proofs.TestSides.{test_known}
-use Rattle.source_tree.proofs.Views.{boxed_test}
 use Rattle.tree_eval.proofs.walk.+follow.Goals as goal
 
 pub follow-requires : goal.follow-requires
@@ -14,8 +13,8 @@ follow-requires t c = (
     c.requires.0,
     c.requires.1,
     ap (λ p. is_ready c.requires.0 p c.requires.1) c.get.ensures
-        ∙ (ready_test c.requires.0 c.requires.1 c.args.tree.now c.get-form.result.now c.in-Test.yes c.in-Test.no
-        (boxed_test c.in-Test.yes c.in-Test.no c.in-Test.is c.get-form.ensures)
+        ∙ (ready_test c.requires.0 c.requires.1 c.args.tree.now c.in-Test.form c.in-Test.yes c.in-Test.no
+        c.in-Test.is
         c.requires.2).1,
   ),
 )
@@ -27,8 +26,8 @@ follow-requires-else-value-ge0 t c = (
     c.requires.0,
     c.requires.1,
     ap (λ p. is_ready c.requires.0 p c.requires.1) c.get-else-value-ge0.ensures
-        ∙ (ready_test c.requires.0 c.requires.1 c.args.tree.now c.get-form.result.now c.in-Test.yes c.in-Test.no
-        (boxed_test c.in-Test.yes c.in-Test.no c.in-Test.is c.get-form.ensures)
+        ∙ (ready_test c.requires.0 c.requires.1 c.args.tree.now c.in-Test.form c.in-Test.yes c.in-Test.no
+        c.in-Test.is
         c.requires.2).2,
   ),
 )
@@ -36,18 +35,18 @@ follow-requires-else-value-ge0 t c = (
 pub returns-then-value-ge0 : goal.returns-then-value-ge0
 returns-then-value-ge0 t c =
     let fits : FitsSigned w64 c.in_ok-value-in-Test.value = search rules in
-    test_known c.args.at.now c.as_slice.result.now c.args.tree.now c.get-form.result.now c.in-Test.yes c.in-Test.no
+    test_known c.args.at.now c.as_slice.result.now c.args.tree.now c.in-Test.form c.in-Test.yes c.in-Test.no
     c.get.result.now c.in_ok-value-in-Test.value true c.follow.result
-    (boxed_test c.in-Test.yes c.in-Test.no c.in-Test.is c.get-form.ensures)
+    c.in-Test.is
     c.as_slice.ensures.value
     c.in_ok-value-in-Test.ensures (simp to_z-of_z at c.if-value-ge0.true) c.get.ensures c.follow.ensures
 
 pub returns-else-value-ge0 : goal.returns-else-value-ge0
 returns-else-value-ge0 t c =
     let fits : FitsSigned w64 c.in_ok-value-in-Test.value = search rules in
-    test_known c.args.at.now c.as_slice.result.now c.args.tree.now c.get-form.result.now c.in-Test.yes c.in-Test.no
+    test_known c.args.at.now c.as_slice.result.now c.args.tree.now c.in-Test.form c.in-Test.yes c.in-Test.no
     c.get-else-value-ge0.result.now c.in_ok-value-in-Test.value false c.follow-else-value-ge0.result
-    (boxed_test c.in-Test.yes c.in-Test.no c.in-Test.is c.get-form.ensures)
+    c.in-Test.is
     c.as_slice.ensures.value c.in_ok-value-in-Test.ensures (simp to_z-of_z at c.if-value-ge0.false)
     c.get-else-value-ge0.ensures c.follow-else-value-ge0.ensures
 

@@ -4,12 +4,12 @@ use Rattle.std.proofs.lemmas.Int.{to_z-of_z}
 use Rattle.text_out.specs.Wrote.{Wrote}
 use Rattle.tree_text.specs.TreeText.{cut_text, proof_text, split_text}
 use Rattle.tree_text.proofs.Texts.{text_cut, text_split, wrote_three, wrote_two}
-use Rattle.int_polyhedra.proofs.Boxes.{boxed_cut, boxed_split}
+use Rattle.int_polyhedra.proofs.Boxes.{boxed_cut}
 use Rattle.tree_text.proofs.writing.+write_proof.Goals as goal
 
 pub returns-in-Cut : goal.returns-in-Cut
 returns-in-Cut g t c =
-    let divisor = c.get-divisor.result.now in
+    let divisor = c.get-divisor.result in
     let terms = c.get-terms.result.now in
     let rest = c.in-Cut.rest in
     let fits : FitsSigned w128 divisor = search rules in
@@ -21,11 +21,11 @@ returns-in-Cut g t c =
 
 pub returns-in-Split : goal.returns-in-Split
 returns-in-Split g t c =
-    let form = c.get-form.result.now in
+    let form = c.in-Split.form in
     let above = c.in-Split.above in
     let below = c.in-Split.below in
     wrote_three g.W.TextWriter.given (split_text form) (proof_text above) (proof_text below)
     (proof_text c.args.proof.now)
-    (ap proof_text (boxed_split above below c.in-Split.is c.get-form.ensures) ∙ text_split form above below)
+    (ap proof_text c.in-Split.is ∙ text_split form above below)
     c.write_split.ensures (rw c.get-in-Split.ensures at c.write_proof-in-Split.ensures)
     (rw c.get-in-Split-2.ensures at c.write_proof-in-Split-2.ensures)

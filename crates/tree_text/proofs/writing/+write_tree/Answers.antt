@@ -6,29 +6,29 @@ use Rattle.std.specs.List.{flat_map}
 use Rattle.tree_text.specs.TreeText.{dead_text, divides_text, map_text, proof_text, test_text, tree_text}
 use Rattle.tree_text.specs.TreeText.{writer_text, zero_text}
 use Rattle.tree_text.proofs.Texts.{text_dead, text_divides, text_test, text_writer, text_zero, wrote_three, wrote_two}
-use Rattle.source_tree.proofs.Views.{boxed_divides, boxed_test}
+use Rattle.source_tree.proofs.Views.{kept_divisor}
 use Rattle.tree_text.proofs.writing.+write_tree.Goals as goal
 
 pub returns-in-Test : goal.returns-in-Test
 returns-in-Test g t c =
-    let form = c.get-form.result.now in
+    let form = c.in-Test.form in
     let above = c.in-Test.above in
     let below = c.in-Test.below in
     wrote_three g.W.TextWriter.given (test_text form) (tree_text above) (tree_text below) (tree_text c.args.tree.now)
-    (ap tree_text (boxed_test above below c.in-Test.is c.get-form.ensures) ∙ text_test form above below)
+    (ap tree_text c.in-Test.is ∙ text_test form above below)
     c.write_test.ensures (rw c.get.ensures at c.write_tree.ensures)
     (rw c.get-in-Test.ensures at c.write_tree-in-Test.ensures)
 
 pub returns-in-Divides : goal.returns-in-Divides
 returns-in-Divides g t c =
-    let form = c.get-form-in-Divides.result.now in
-    let divisor = c.in-Divides.divisor in
+    let form = c.in-Divides.form in
+    let divisor = c.get-divisor.result in
     let above = c.in-Divides.above in
     let below = c.in-Divides.below in
     let fits : FitsSigned w128 divisor = search rules in
     wrote_three g.W.TextWriter.given (divides_text form divisor) (tree_text above) (tree_text below)
     (tree_text c.args.tree.now)
-    (ap tree_text (boxed_divides above below c.in-Divides.is c.get-form-in-Divides.ensures)
+    (ap tree_text (kept_divisor above below c.in-Divides.is c.get-divisor.ensures)
     ∙ text_divides form divisor above below)
     (subst (λ (d : ℤ). Wrote g.W.TextWriter.given c.args.out.now c.write_divides.new.out (divides_text form d))
     (to_z-of_z w128 divisor fits) c.write_divides.ensures)

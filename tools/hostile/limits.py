@@ -575,7 +575,6 @@ def line_texts(share: int) -> Iterator[tuple[str, int, bytes, bytes]]:
 HEAVY = {
     "r 2 1 and f",
     "s, of a proof",
-    "m 0, of a leaf",
     "c 1, of proofs",
     "b 0 and s, of proofs",
     "t 0 and z 0, of trees",

@@ -13,7 +13,7 @@ returns-then-yes c =
     let fits : FitsSigned w128 c.args.divisor = c.ranges.divisor in
     IfOk-weaker c.with_equal.result _ _
     (λ more is. divides_yes_is c.args.space.now.vars c.args.system c.args.form.now c.args.divisor c.args.quotient
-    c.args.yes _ _ _ c.taken-value.ensures.value c.variable.ensures.value
+    c.args.yes _ _ _ (rw c.get.ensures at c.taken-value.ensures.value) c.variable.ensures.value
     (c.times-multiple.ensures.value ∙ ap (λ d. times_of d c.variable.result) (to_z-of_z w128 c.args.divisor fits))
     c.if-yes.true more is) c.with_equal.ensures.value
 
@@ -22,7 +22,7 @@ returns c =
     let fits : FitsSigned w128 c.args.divisor = c.ranges.divisor in
     IfOk-weaker c.with_row-2.result _ _
     (λ more is. divides_no_is c.args.space.now.vars c.args.system c.args.form.now c.args.divisor c.args.quotient
-    c.args.yes _ _ _ c.taken-value.ensures.value c.variable.ensures.value
+    c.args.yes _ _ _ (rw c.get.ensures at c.taken-value.ensures.value) c.variable.ensures.value
     (c.times-multiple.ensures.value ∙ ap (λ d. times_of d c.variable.result) (to_z-of_z w128 c.args.divisor fits))
     c.if-yes.false _ _ _ _ _ _ _ more c.minus.ensures.value c.one_less-least.ensures.value
     (c.constant.ensures.value

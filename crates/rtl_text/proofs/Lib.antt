@@ -6,3 +6,4 @@ mod Differences
 mod NetworkPorts
 mod ShortScripts
 mod NumberedNames
+mod DesignClocks

@@ -1,9 +1,12 @@
 -- What the design of a network is.
-use Rattle.std.specs.Prelude.{◌≡◌, ℕ, List}
+use Rattle.std.specs.Prelude.{◌≡◌, ℕ, List, [], slice_get}
 use Rattle.std.specs.List.{AllZip}
+use Rattle.std.specs.Option.{option_map_or}
 use Rattle.sanlp.specs.declared.nest.Nest.{Nest}
 use Rattle.net_core.specs.declared.network.Network.{Network}
 use Rattle.node_automata.specs.Automata.{automata}
+use Rattle.design_clocks.specs.Plain.{plain}
+use Rattle.design_clocks.specs.Registers.{Controls}
 use Rattle.unit_text.specs.Units.{IsUnitOf}
 use Rattle.unit_text.specs.declared.unit.Unit.{Unit}
 use Rattle.rtl_text.specs.Networks.{rtl_text}
@@ -18,3 +21,7 @@ pub record IsDesignOf (nest : Nest) (network : Network) (text : List ℕ) : Type
   pub units : List Unit
   pub are_units : AreUnitsOf nest network units
   pub text_is : text ≡ rtl_text nest network units
+
+-- the sequencers that say where the nodes of units are in their scripts, and one of nothing where there is no unit
+abbrev pub controls_of : List Unit → Controls
+controls_of units p = option_map_or (λ unit. unit.control) (slice_get units p) (plain [])

@@ -1,21 +1,31 @@
 ghost use Rattle.std.specs.Prelude.{◌≡◌, ◌≢◌, ◌<◌, ◌^◌, ◌++◌, ℕ, codes, decimal, map, All, IsTrue, List, None};
+ghost use Rattle.sanlp.specs.declared.nest.Inputs.{Inputs};
 ghost use Rattle.sanlp.specs.declared.nest.Nest.{Nest};
+ghost use Rattle.sanlp.specs.Meaning.{arrays};
 ghost use Rattle.sanlp.specs.Points.{points_of};
 ghost use Rattle.sanlp.specs.WellFormed.{all_differ};
 ghost use Rattle.net_core.specs.declared.network.Network.{Network};
 ghost use Rattle.net_core.specs.Machine.{net_of};
+ghost use Rattle.net_core.specs.Rules.{values};
 ghost use Rattle.net_core.specs.Shape.{IsShaped};
+ghost use Rattle.net_core.specs.Sound.{IsSound};
+ghost use Rattle.clock_sim.specs.Clocks.{clocks};
+ghost use Rattle.design_clocks.specs.Registers.{unstalled};
+ghost use Rattle.design_clocks.specs.Clocked.{FiresFindValues, GiveScripts, RunsByClock, TakesClocks, given_out};
 ghost use Rattle.node_automata.specs.Automata.{automata};
 ghost use Rattle.vhdl_text.specs.Refusal.{first_too_long};
 ghost use Rattle.unit_text.specs.declared.unit.Unit.{Unit};
 ghost use Rattle.unit_text.specs.Limits.{first_with_long_sequencer};
 ghost use Rattle.unit_text.specs.Nodes.{entity_text};
 ghost use Rattle.unit_text.specs.Ports.{entity_with, node_name, ports};
-ghost use Rattle.rtl_text.specs.Designs.{AreUnitsOf, IsDesignOf};
+ghost use Rattle.rtl_text.specs.Designs.{AreUnitsOf, IsDesignOf, controls_of};
 ghost use Rattle.rtl_text.specs.Joins.{joins, node_with};
 ghost use Rattle.rtl_text.specs.Names.{as_read};
 ghost use Rattle.rtl_text.specs.Networks.{network_entity, node_part, rtl_text};
 ghost use Rattle.rtl_text.specs.Ports.{network_ports};
+
+use design_clocks::{design_computes, design_runs_by_clock};
+use unit_text::controls_give_scripts;
 
 // Each of these does nothing: its contract is a law over the definitions.
 
@@ -58,3 +68,30 @@ pub fn short_scripts_have_short_sequencers()
         → first_too_long (automata nest network) ≡ None
         → first_with_long_sequencer units ≡ None }
 {}
+
+/// The sequencers of the hardware of a network give its scripts, so the design does at each edge of the clock what the clocked run
+/// does at each clock, where no stream stalls. That of a network that is sound for a nest takes exactly as many clocks, and by then
+/// its sinks have given out the arrays after the nest. Each fire finds a value in each slot that it reads. This is said of the
+/// registers that its text is to have, and not of what a tool makes of the text.
+pub fn designs_run_by_clock()
+    ensures scripts { (nest : Nest) (network : Network) (units : List Unit)
+        → IsShaped (net_of network) (points_of nest) → AreUnitsOf nest network units
+        → GiveScripts (net_of network) (controls_of units) }
+    ensures runs { (nest : Nest) (network : Network) (text : List ℕ) (d : Inputs)
+        → IsShaped (net_of network) (points_of nest) → (design : IsDesignOf nest network text)
+        → RunsByClock (net_of network) (controls_of design.units) (values nest d) }
+    ensures clocks { (nest : Nest) (network : Network) (text : List ℕ) (d : Inputs)
+        → IsSound nest network → (design : IsDesignOf nest network text)
+        → TakesClocks (net_of network) (controls_of design.units) (values nest d) }
+    ensures arrays { (nest : Nest) (network : Network) (text : List ℕ) (d : Inputs)
+        → IsSound nest network → (design : IsDesignOf nest network text)
+        → given_out nest (net_of network) (controls_of design.units) (values nest d) unstalled
+        (clocks (net_of network)) ≡ arrays nest d }
+    ensures reads { (nest : Nest) (network : Network) (text : List ℕ) (d : Inputs)
+        → IsSound nest network → (design : IsDesignOf nest network text)
+        → FiresFindValues (net_of network) (controls_of design.units) (values nest d) }
+{
+    controls_give_scripts();
+    design_runs_by_clock::<i64>();
+    design_computes();
+}

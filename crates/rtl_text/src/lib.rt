@@ -9,7 +9,7 @@ mod network;
 mod text;
 
 pub use laws::{
-    network_ports_differ, node_ports_are_joined_in_order, short_scripts_have_short_sequencers,
-    units_make_a_design,
+    designs_run_by_clock, network_ports_differ, node_ports_are_joined_in_order,
+    short_scripts_have_short_sequencers, units_make_a_design,
 };
 pub use text::write_rtl;

@@ -1,0 +1,4 @@
+pub mod Registers
+pub mod Clocked
+pub mod Plain
+pub mod Rings

@@ -10,3 +10,4 @@ pub mod FewestSlots
 pub mod EntryTexts
 pub mod Worked
 pub mod WorkedTexts
+pub mod StalledDesigns

@@ -31,7 +31,8 @@ HasDesign policy nest (Err refusal) =
 -- with the capacities that are wanted.
 --
 -- Which blocks a script and what a loop gains are kept as is free, so where a process has more than 65,536 events both a design
--- and the refusal may be right; where none has, there is no refusal.
+-- and the refusal may be right; where none has, there is no refusal, as the law `rtl_text::short_scripts_have_short_sequencers`
+-- says.
 pub data Designs (policy : Policy) (params : List (List ℕ × ℤ))
     (bundle : List ℕ) : Result Reply Refusal → Type 0 where
   source_refused : (refusal : Refusal) → GivesWithinSize (source_part bundle) params (Err refusal)

@@ -13,10 +13,11 @@ use Rattle.cert_lines.specs.declared.error.Fault.{Fault}
 use Rattle.cert_lines.specs.Words.{words_of}
 use Rattle.cert_lines.specs.Reading.{Part, Place, followed_by, line, many}
 use Rattle.cert_lines.proofs.Codecs.{IsSpelled, reads_first}
-use Rattle.cert_lines.proofs.LineWords.{is_word, line_lacks, words_joined}
+use Rattle.cert_lines.proofs.LineWords.{is_word, line_lacks}
 use Rattle.cert_places.specs.Fronts.{IsLine}
 use Rattle.cert_places.specs.Places.{IsShallow}
 use Rattle.cert_places.proofs.Taking.{line_again}
+use Rattle.cert_places.proofs.Patterns.{words_of_joined}
 
 -- what is read of bytes whose lines have these depths, and behind which these stand
 pub data Outcome {A : Type 0} (n : ℕ) (rest ds : List ℕ) (read : Result (A × Place) CertError) : Type 0 where
@@ -110,11 +111,6 @@ both_answer_last first second text ds more es one two n =
 pub record IsSaid {A : Type 0} (judge : List (List ℕ) → Result A Fault) (text : List ℕ) (x : A) : Type 0 where
   pub whole : IsLine text
   pub said : judge (words_of text) ≡ Ok x
-
-pub words_of_joined : (words : List (List ℕ)) → 0 < length words → list_all is_word words ≡ true
-    → words_of (join_with_byte 32 words) ≡ words
-words_of_joined [] some are = absurd (omega (arith, some))
-words_of_joined (word ∷ words) some are = words_joined word words are
 
 pub said_of_words : {A : Type 0} (judge : List (List ℕ) → Result A Fault) (words : List (List ℕ)) (x : A)
     → 0 < length words → list_all is_word words ≡ true → judge words ≡ Ok x

@@ -21,7 +21,7 @@ use Rattle.cert_lines.specs.declared.error.Fault.{Fault}
 use Rattle.cert_lines.specs.declared.error.Fault.TheVariants.{Words, Range}
 use Rattle.cert_lines.specs.Words.{both, integer, is_negative, is_numeral, just, made, number, words_of}
 use Rattle.cert_lines.proofs.Cuts.{lacks_head, lacks_tail}
-use Rattle.cert_lines.proofs.LineWords.{is_word, line_lacks}
+use Rattle.cert_lines.proofs.LineWords.{is_word, line_lacks, words_joined}
 use Rattle.tree_text.specs.Lines.{coefficients, cut_words, dead_words, divides_words, form, integers, map_line}
 use Rattle.tree_text.specs.Lines.{proof_line, term, terms, tree_line, writer_words, zero_words}
 use Rattle.cert_text.specs.Places.{channel_line, entry_line, event_line, fire_words, get_words, part_line, process_line}
@@ -31,7 +31,6 @@ use Rattle.cert_text.proofs.WordVerdicts.{word_of_class}
 use Rattle.cert_places.specs.Fronts.{IsLine}
 use Rattle.cert_places.specs.Places.{in_pattern, is_number, pattern, patterns}
 use Rattle.cert_places.proofs.LineTypes.{IsVersion, Version, second_version}
-use Rattle.cert_places.proofs.Outcomes.{words_of_joined}
 
 -- what was judged of words, and what of their pattern
 abbrev pub Milder : {A : Type 0} → Result A Fault → Result A Fault → Type 0
@@ -519,6 +518,11 @@ line_words (byte ∷ text) whole =
       | inr other ↦ ap (list_all is_word) (slice_split-cons_no (λ b. b == 32) byte text other)
           ∙ onto_word byte (words_of text) other (lacks_head 10 byte text whole) more
     ]
+
+pub words_of_joined : (words : List (List ℕ)) → 0 < length words → list_all is_word words ≡ true
+    → words_of (join_with_byte 32 words) ≡ words
+words_of_joined [] some are = absurd (omega (arith, some))
+words_of_joined (word ∷ words) some are = words_joined word words are
 
 -- numbers out of range can be others
 pub mends : {A : Type 0} (judge : List (List ℕ) → Result A Fault) → Milds judge → (text : List ℕ) → IsLine text

@@ -42,23 +42,29 @@ with_policy value split = record split { policies = value ∷ split.policies }
 abbrev pub with_clocks : Split → Split
 with_clocks split = record split { clocks = true }
 
--- the words split that begin with a word of this kind, by the words behind it, by these split, and by these split as words that
--- begin with a value of the policy
-abbrev pub split_at : Kind → Text → List Text → Option Split → Option Split → Option Split
-split_at Dashes word words rest valued =
-    Some (record { items = words; policies = []; clocks = false })
-split_at Policy word words rest valued = valued
-split_at PolicyValue word words rest valued = option_map (with_policy (policy_value word)) rest
-split_at Clocks word words rest valued = option_map with_clocks rest
-split_at Unknown word words rest valued = None
-split_at Item word words rest valued = option_map (with_item word) rest
+-- A word with those behind it: these as they stand, split, and split as words that begin with a value of the policy.
+pub record Front : Type 0 where
+  pub word : Text
+  pub words : List Text
+  pub split : Option Split
+  pub valued : Option Split
+
+-- the words split, by what the first of them is
+abbrev pub split_front : Kind → Front → Option Split
+split_front Dashes front = Some (record { items = front.words; policies = []; clocks = false })
+split_front Policy front = front.valued
+split_front PolicyValue front = option_map (with_policy (policy_value front.word)) front.split
+split_front Clocks front = option_map with_clocks front.split
+split_front Unknown front = None
+split_front Item front = option_map (with_item front.word) front.split
 
 abbrev mutual
   -- the words split, or None where a word before `--` is another option, or `--policy` is the last
   pub split_words : List Text → Option Split
   split_words [] = Some (record { items = []; policies = []; clocks = false })
   split_words (word ∷ words) =
-      split_at (kind_of word) word words (split_words words) (split_value words)
+      split_front (kind_of word)
+      (record { word = word; words = words; split = split_words words; valued = split_value words })
 
   -- the words after `--policy`
   pub split_value : List Text → Option Split

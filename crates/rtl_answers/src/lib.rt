@@ -8,6 +8,7 @@ mod answer;
 mod call;
 mod clocks;
 mod design;
+mod laws;
 mod networks;
 mod program;
 
@@ -15,4 +16,5 @@ pub use answer::Answer;
 pub use call::compaan_rtl;
 pub use clocks::Clocks;
 pub use design::Design;
+pub use laws::answered_clocks_are_those_of_designs;
 pub use program::run_design_program;

@@ -3,7 +3,7 @@
 -- A system is the context's rows, those of a domain and a cell, and order rows behind them: so its number of rows is a
 -- sum, and the order rows of each level are as many as were counted. The systems of a place have one row more than the
 -- context, or the order rows of the reader before it.
-use Rattle.std.proofs.Common.{◌≡◌, ◌==◌, ◌+◌, ◌*◌, ◌^◌, ◌≤◌, ℕ, List, [], ◌∷◌, ◌++◌, length, map, replicate, Bool, true}
+use Rattle.std.proofs.Common.{◌≡◌, ◌==◌, ◌+◌, ◌*◌, ◌^◌, ◌≤◌, ℕ, zero, suc, List, [], ◌∷◌, ◌++◌, length, map, replicate, Bool, true}
 use Rattle.std.proofs.Common.{false, cond, refl, sym, ap, ◌∙◌, subst, arith, append_assoc, length-append}
 use Rattle.std.specs.Prelude.{Some, None, All, IfSome, Option, nat_lt}
 use Rattle.std.specs.List.{flat_map}
@@ -11,7 +11,6 @@ use Rattle.std.proofs.lemmas.List.{length-map, map-append}
 use Rattle.std.proofs.lemmas.List.Elements.{All-append, All-cons, All-head, All-map, All-nil, All-replicate, All-tail}
 use Rattle.std.proofs.lemmas.List.Elements.{All-weaker}
 use Rattle.std.proofs.lemmas.Simd.{map-map}
-use Rattle.std.proofs.Math.ListN.{replicate-append-replicate}
 use Rattle.affine_core.specs.declared.form.Form.{Form}
 use Rattle.difference_graphs.proofs.OrderEdges.{length_variables}
 use Rattle.difference_graphs.specs.Joint.{no_orders}
@@ -33,11 +32,9 @@ use Rattle.source_tree.specs.Systems.{Context, Occurrence, after_systems, array_
 use Rattle.source_tree.specs.Systems.{outside_systems, reader_place, same_systems, with_rows, write_systems, writer_place}
 use Rattle.source_tree.specs.Systems.{writer_systems, zero_systems}
 use Rattle.source_tree.specs.declared.reference.Reference.{Reference}
-use Rattle.source_tree.proofs.RowLists.{length-cell_rows}
 use Rattle.stride_trees.specs.Strides.{depth_of_read, read_of, write_of}
 use Rattle.stride_trees.specs.declared.strides.Strides.{Strides}
 use Rattle.stride_trees.proofs.ProblemBounds.{are_fitting, AreFitting}
-use Rattle.stride_trees.proofs.LeafConversion.{length-differ_rows}
 
 abbrev system : ℕ → List RowExpr → RowSystem
 system vars rows = record { vars = vars; rows = rows }
@@ -69,6 +66,14 @@ module _ (vars : ℕ) (base : List RowExpr) where
 
 -- Writes before the read
 
+cells_long : (writes reads place : List Form) → length writes ≡ length reads
+    → length (cell_rows writes reads place) ≡ 2 * length writes
+cells_long [] [] place e = omega arith
+cells_long [] (read ∷ reads) place e = omega arith
+cells_long (write ∷ writes) [] place e = absurd (omega (arith, e))
+cells_long (write ∷ writes) (read ∷ reads) place e =
+    omega (arith, cells_long writes reads place (omega (arith, e)))
+
 write_counted : (x : Writer) (c : Context) (behind : Option Reference) (further : Occurrence → List (List RowExpr))
     (here : ℕ) → length c.rows ≡ here → depth_of_read x.strides ≤ c.vars
     → length (write_of x.strides).access.subscripts ≡ length (read_of x.strides).access.subscripts
@@ -89,7 +94,7 @@ write_counted x c behind further here count inside even h =
       length-append c.rows (domain_rows u.statement.rows place ++ cell_rows u.access.subscripts r.access.subscripts place),
       length-append (domain_rows u.statement.rows place) (cell_rows u.access.subscripts r.access.subscripts place),
       length-map u.statement.rows (λ row. at_place row place),
-      length-cell_rows u.access.subscripts r.access.subscripts place even,
+      cells_long u.access.subscripts r.access.subscripts place even,
       count,
     ) in
     counted_levels (c.vars + length u.statement.loops) base levels (further u)
@@ -142,6 +147,19 @@ module _ (w : Answered) (h : IsAnswered w) (c : Context) (here : ℕ) (count : l
   same_counted f n is (x ∷ xs) =
       ap (λ m. m ∷ map row_count (map f xs)) (is x) ∙ ap (λ ns. n ∷ ns) (same_counted f n is xs)
 
+  replicate_both : (a b n : ℕ) → replicate a n ++ replicate b n ≡ replicate (a + b) n
+  replicate_both zero b n = let e : b ≡ zero + b = omega arith in ap (λ k. replicate k n) e
+  replicate_both (suc a) b n = ap (λ ns. n ∷ ns) (replicate_both a b n)
+      ∙ (let e : suc (a + b) ≡ suc a + b = omega arith in ap (λ k. replicate k n) e)
+
+  differ_long : (writes reads place : List Form) → length writes ≡ length reads
+      → length (differ_rows writes reads place) ≡ 2 * length writes
+  differ_long [] [] place e = omega arith
+  differ_long [] (read ∷ reads) place e = omega arith
+  differ_long (write ∷ writes) [] place e = absurd (omega (arith, e))
+  differ_long (write ∷ writes) (read ∷ reads) place e =
+      omega (arith, differ_long writes reads place (omega (arith, e)))
+
   same_long : (a b : List Form) → length a ≡ length b → length (same_rows a b) ≡ 2 * length a
   same_long [] [] e = omega arith
   same_long [] (f ∷ b) e = omega arith
@@ -184,8 +202,8 @@ module _ (w : Answered) (h : IsAnswered w) (c : Context) (here : ℕ) (count : l
         ∙ ap (λ ns. replicate (length u.statement.rows) (here + 1) ++ ns)
         (same_counted (λ (row : RowExpr). with_rows c (row ∷ [])) (here + 1) row_more
         (differ_rows u.access.subscripts r.access.subscripts place)
-        ∙ ap (λ k. replicate k (here + 1)) (length-differ_rows u.access.subscripts r.access.subscripts place even))
-        ∙ replicate-append-replicate (length u.statement.rows) (2 * length u.access.subscripts) (here + 1)
+        ∙ ap (λ k. replicate k (here + 1)) (differ_long u.access.subscripts r.access.subscripts place even))
+        ∙ replicate_both (length u.statement.rows) (2 * length u.access.subscripts) (here + 1)
 
     lengths_are : map length orders ≡ order_counts r u
     lengths_are = order_lengths (common_of r u) (nat_lt r.number u.number) (reader_place r) place

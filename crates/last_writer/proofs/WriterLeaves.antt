@@ -37,13 +37,11 @@ use Rattle.source_tree.proofs.Refutations.{AreRefuted-append, length-AreRefuted}
 use Rattle.source_tree.specs.References.{occurrence_of}
 use Rattle.stride_trees.specs.Contexts.{outside_cell_systems, IsPlaceIn}
 use Rattle.stride_trees.specs.Problem.{problem_reads, problem_rows, problem_write, problem_writes, told_read, told_write}
-use Rattle.stride_rows.specs.Sources.{divided_form}
+use Rattle.stride_rows.specs.Sources.{divided_form, places_behind}
 use Rattle.stride_trees.specs.Strides.{depth_of_write, read_of, write_of}
 use Rattle.stride_trees.specs.declared.strides.Strides.{Strides}
 use Rattle.stride_trees.proofs.ProblemBounds.{are_fitting, AreFitting}
 use Rattle.stride_trees.proofs.Lists.{refuted_apart, AreRefutedBoth}
-use Rattle.stride_trees.proofs.LeafConversion.{length-differ_rows}
-use Rattle.stride_trees.proofs.SystemConversion.{reads_count}
 
 -- The writer of a number
 
@@ -174,23 +172,35 @@ module _ (w : Answered) (here : ℕ) (c : Context) (number : ℕ) (place : List 
   pub is_place : IsPlaceIn c (depth_of_write s) place
   is_place = record { deep = deep; over = j.over; within = j.within }
 
+  differ_count : (writes reads place : List Form) (c : Context) → length writes ≡ length reads
+      → length (map (λ row. with_rows c (row ∷ [])) (differ_rows writes reads place)) ≡ 2 * length writes
+  differ_count [] [] place c e = omega arith
+  differ_count [] (read ∷ reads) place c e = absurd (omega (arith, e))
+  differ_count (write ∷ writes) [] place c e = absurd (omega (arith, e))
+  differ_count (write ∷ writes) (read ∷ reads) place c e =
+      omega (arith, differ_count writes reads place c (omega (arith, e)))
+
   pub place_count : length first.front ≡ length s.write.statement.now.rows + 2 * length s.write.access.now.subscripts
   place_count =
-      let subscripts : List Form = problem_writes u.access.subscripts in
-      let read_subscripts : List Form =
-      problem_reads c.vars (length r.statement.loops) x.places u.access.subscripts r.access.subscripts in
       omega (
         arith,
         length-AreRefuted outside first.front first.of_first,
         length-append (outside_systems c u' place) (cell_systems r' c u' place),
         length-map (problem_rows u.statement.rows) (λ row. with_rows c (below_zero (at_place row place) ∷ [])),
         length-map u.statement.rows divided_form,
-        length-map (differ_rows subscripts read_subscripts place) (λ row. with_rows c (row ∷ [])),
-        length-differ_rows subscripts read_subscripts place
+        differ_count (problem_writes u.access.subscripts)
+            (problem_reads c.vars (length r.statement.loops) x.places u.access.subscripts r.access.subscripts) place c
             (length-map u.access.subscripts problem_write
-            ∙ reads_count c.vars (length r.statement.loops) x.places u.access.subscripts r.access.subscripts fits.even),
+            ∙ sym (reads_count c.vars (length r.statement.loops) x.places u.access.subscripts r.access.subscripts fits.even)),
         length-map u.access.subscripts problem_write,
-      )
+      ) where
+        reads_count : (vars depth : ℕ) (places : List ℕ) (writes reads : List Form) → length writes ≡ length reads
+            → length (problem_reads vars depth places writes reads) ≡ length writes
+        reads_count vars depth places [] [] e = refl
+        reads_count vars depth places [] (read ∷ reads) e = absurd (omega (arith, e))
+        reads_count vars depth places (write ∷ writes) [] e = absurd (omega (arith, e))
+        reads_count vars depth places (write ∷ writes) (read ∷ reads) e =
+            ap suc (reads_count vars depth (places_behind write places) writes reads (omega (arith, e)))
 
   pub after_count : length second.front ≡ after_systems_count r u
   after_count =

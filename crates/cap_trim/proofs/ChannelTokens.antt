@@ -5,7 +5,7 @@
 -- source is a turn that the writer has, and it is used, so there is a token at least (`token_below` of witness_plan); and
 -- the writer's whole script has no fewer Puts to the channel than tokens (`tokens_put`). It holds for the network of a
 -- nest: that a network is wired doesn't say that anybody puts to each of its channels.
-use Rattle.std.proofs.Common.{◌≡◌, ℕ, ◌-◌, ◌<◌, ◌≤◌, true, Option, Some, None, List}
+use Rattle.std.proofs.Common.{◌≡◌, ℕ, ◌<◌, ◌≤◌, true, Option, Some, None, List}
 use Rattle.std.proofs.Common.{length, slice_get, get_or, count_by, refl, ap, ◌∙◌}
 use Rattle.std.proofs.Common.{arith}
 use Rattle.std.specs.List.{list_any}

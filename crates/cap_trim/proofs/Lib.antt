@@ -6,6 +6,8 @@ pub mod LeastCapacities
 pub mod LeastEnabled
 pub mod RestPositions
 pub mod CapacitySearch
+pub mod Rings
+pub mod NeededPlaces
 pub mod ChannelCapacities
 pub mod Turns
 pub mod CapacityLists

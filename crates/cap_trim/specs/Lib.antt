@@ -1,3 +1,4 @@
 pub mod Capacities
 pub mod LeastRuns
 pub mod Rests
+pub mod Rings

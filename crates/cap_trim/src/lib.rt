@@ -6,6 +6,7 @@
 
 mod laws;
 mod least_run;
+mod needed_places;
 mod resting;
 mod trimming;
 

@@ -9,6 +9,7 @@ ghost use Rattle.net_core.specs.Progress.{at_capacities};
 ghost use Rattle.cap_trim.specs.Rests.{least_run};
 
 use crate::least_run::go_on;
+use crate::needed_places::needed_places;
 use crate::resting::{capacities_of, rest_at};
 use derived_names::{has_classes_of_uses, names_last_writers};
 use net_core::{Network, Progress};
@@ -56,13 +57,16 @@ fn lower(
     Ok(())
 }
 
-// Gives each channel its least capacity, in ascending order.
+// Gives each channel its least capacity, in ascending order. Where each place is found to be needed, one run finds them.
 fn trimmed_capacities(alloc: Global, network: &Network) -> Result<Vec<u32>, AllocError>
     requires wired { IsWired (net_of network.now) }
     requires numbers { FitsNumbers (net_of network.now) }
     ensures { IfOk result
         (λ capacities. capacities.items ≡ capacity_list (trimmed_network (net_of network.now))) }
 {
+    if let Some(places) = needed_places(alloc, network)? {
+        return Ok(places);
+    }
     let mut capacities = capacities_of(alloc, network)?;
     for channel in 0..network.channels.len() as u32 {
         lower(alloc, network, &mut capacities, channel)?;
@@ -95,7 +99,7 @@ fn lowered_rests(
 
 /// Lowers the capacities of a network one after the other, in ascending order of channels, each to the least one at which the
 /// network ends, and tells for each channel where the network comes to rest with one place less there. It takes for each
-/// channel the time of two runs. Nothing is refused but want of memory.
+/// channel the time of two runs at most. Nothing is refused but want of memory.
 pub fn least_capacities(alloc: Global, network: &Network) -> Result<Trimmed, AllocError>
     requires wired { IsWired (net_of network.now) }
     requires numbers { FitsNumbers (net_of network.now) }

@@ -1,0 +1,6 @@
+use Rattle.net_core.specs.Machine.{net_of}
+use Rattle.cap_trim.proofs.NeededPlaces.{IsRaised}
+use Rattle.cap_trim.proofs.needed_places.needed_places.Given as goal
+
+abbrev pub invariant-loop : goal.invariant-loop
+invariant-loop l = IsRaised (net_of l.network) l.places.items l.progress

@@ -573,7 +573,6 @@ def line_texts(share: int) -> Iterator[tuple[str, int, bytes, bytes]]:
 
 # Kinds of line that take more memory than they should: a bundle that is full of them may take more than is wanted, or end with 10.
 HEAVY = {
-    "r 2 1 and f",
     "s, of a proof",
     "c 1, of proofs",
     "b 0 and s, of proofs",

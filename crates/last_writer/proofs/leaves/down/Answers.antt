@@ -44,8 +44,8 @@ converted_leaf-requires-clause-leaf c =
       c.in_default.not-Test,
     )
 
-pub returns-in_ok-converted_leaf-in_default : goal.returns-in_ok-converted_leaf-in_default
-returns-in_ok-converted_leaf-in_default c = λ whole h.
+pub returns : goal.returns
+returns c = λ whole h.
     at_leaf c.args.w.now c.args.rows whole c.args.opens.now c.args.tree c.in_ok-converted_leaf-in_default.field-0 h
     (subst (λ n. Converts c.args.w.now (c.args.rows + n) c.args.tree c.in_ok-converted_leaf-in_default.field-0) c.len.ensures
     c.in_ok-converted_leaf-in_default.ensures)

@@ -34,5 +34,6 @@ pub record IsRing (n : Net) (k : Cut) (c p : ℕ) : Type 0 where
   pub some : 0 < size
   pub back : further (waits_for n k) p size ≡ p
   pub waits : (i : ℕ) → i < size
-      → waits_at c (slice_get (n.script (further (waits_for n k) p i)) (k (further (waits_for n k) p i)))
+      → waits_at c
+      (slice_get (n.script (further (waits_for n k) p i)) (k (further (waits_for n k) p i)))
       ≡ true

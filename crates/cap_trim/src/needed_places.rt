@@ -113,7 +113,8 @@ fn needing_place(progress: &Progress, network: &Network, places: &[u32]) -> Opti
 }
 
 /// The least capacities, where each place of them is found to be needed at a state in which the network would else stick; and
-/// none where that isn't found. It takes the time of one run, and for each place that of some looks at all processes.
+/// none where that isn't found. It takes the time of one run, and for each place at most one look
+/// at all processes for each process.
 pub(crate) fn needed_places(
     alloc: Global,
     network: &Network,

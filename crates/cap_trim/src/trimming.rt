@@ -99,7 +99,8 @@ fn lowered_rests(
 
 /// Lowers the capacities of a network one after the other, in ascending order of channels, each to the least one at which the
 /// network ends, and tells for each channel where the network comes to rest with one place less there. It takes for each
-/// channel the time of two runs at most. Nothing is refused but want of memory.
+/// channel the time of two runs at most, and that of one more, in which needed places are looked for. Nothing is refused but
+/// want of memory.
 pub fn least_capacities(alloc: Global, network: &Network) -> Result<Trimmed, AllocError>
     requires wired { IsWired (net_of network.now) }
     requires numbers { FitsNumbers (net_of network.now) }

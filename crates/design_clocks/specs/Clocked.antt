@@ -79,7 +79,7 @@ FiresFindValues {T} n controls rule =
     → slice_get refs read ≡ Some (Slot slot)
     → (x : T) × (slice_get ((after_edges n controls rule k).node p).slots slot ≡ Some (Some x))
 
--- what the sinks have given out at the first so many edges, one list for each declared array, empty where it is no output
+-- what the sinks have fired at the first so many edges, one list for each declared array, empty where it is no output
 abbrev pub given_out : Nest → Net → Controls → Rule ℤ → (ℕ → ℕ → Bool) → ℕ → List (List ℤ)
 given_out nest n controls rule may k =
     sink_lists_from (λ p. fires_of n controls rule may p k)

@@ -134,7 +134,8 @@ after_stalls n controls rule may zero = behind_reset n controls
 after_stalls n controls rule may (suc k) =
     edge n controls rule (may k) (after_stalls n controls rule may k)
 
--- all that node p fires at the first so many edges, in order; of a sink this is what it gives out
+-- All that node p fires at the first so many edges, in order. Of a sink these are its results, each of which stands at its
+-- port behind that edge.
 abbrev pub fires_of : {T : Type 0} → Net → Controls → Rule T → (ℕ → ℕ → Bool) → ℕ → ℕ → List T
 fires_of n controls rule may p zero = []
 fires_of n controls rule may p (suc k) =

@@ -37,7 +37,7 @@ pub fn design_takes_clocks<T: Copy>()
     clocked_run_ends::<T>();
 }
 
-/// The design of a network that is sound for a nest takes as many clocks as the clocked run, and by then the sinks have given out
+/// The design of a network that is sound for a nest takes as many clocks as the clocked run, and by then the sinks have fired
 /// the arrays after the nest. Each fire finds a value in each slot that it reads.
 pub fn design_computes()
     ensures clocks { (nest : Nest) (network : Network) (controls : Controls) (d : Inputs)

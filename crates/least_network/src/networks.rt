@@ -21,8 +21,8 @@ use witness_plan::{Policy, other_capacities, with_capacities};
 /// capacities below these does any run end all. It fits the nest with the schedule of its least-process run, so it is sound: in
 /// every order of events it computes what the nest computes.
 ///
-/// Points come beside the nest as for `trim`, which doesn't need them. It takes for each channel the time of two runs. Nothing is
-/// refused but want of memory.
+/// Points come beside the nest as for `trim`, which doesn't need them. It takes for each channel the time of two runs at most, and
+/// that of one more. Nothing is refused but want of memory.
 pub fn compile_least(alloc: Global, nest: &Nest, points: &Points) -> Result<Network, AllocError>
     requires { SizeIsOk nest.now }
     ensures network { IfOk result (λ network. network ≡ least_network nest.now) }

@@ -18,7 +18,7 @@ use crate::clocks::stalls_do_no_harm;
 
 /// Stalls do no harm to a design either: however its nodes are held back, by a stream or by a gated clock, it stands for the run in
 /// which the processes are held back at the same clocks. If none is held back for ever, every node comes to its script's end. In the
-/// design of a network that is sound for a nest, wherever all are there, the sinks have given out the arrays after the nest.
+/// design of a network that is sound for a nest, wherever all are there, the sinks have fired the arrays after the nest.
 pub fn stalled_designs_compute<T: Copy>()
     ensures design { (n : Net) (controls : Controls) (rule : Rule T) (may : ℕ → ℕ → Bool) (k : ℕ)
         → IsWired n → GiveScripts n controls

@@ -18,8 +18,8 @@ use sanlp::Nest;
 use swept_net::has_certificate;
 
 /// The number that is answered where clocks are asked for is that of each design under the same policy: where no stream stalls, its
-/// registers stand still after exactly so many edges from a reset on, each node at its script's end, and its sinks have given out
-/// the arrays after the nest. It does nothing: its contract is a law over the definitions.
+/// registers stand still after exactly so many edges from a reset on, each node at its script's end, and its sinks have fired the
+/// arrays after the nest. It does nothing: its contract is a law over the definitions.
 pub fn answered_clocks_are_those_of_designs(nest: &Nest)
     ensures sound { (policy : Policy) → IsSound nest.now (network_for policy nest.now) }
     ensures clocks { (policy : Policy) (text : List ℕ) (d : Inputs)

@@ -4,11 +4,6 @@
 -- may be grouped in any way, and nothing stands behind the fourth, so both are the same bytes (`line_end`), and what
 -- was written is the line. It is a law of these five texts, without induction, and says nothing of what a call that
 -- failed left.
---
--- The code writes five texts, one behind the other; the definition joins four and has the end behind them. Joining
--- may be grouped in any way, and nothing stands behind the fourth, so both are the same bytes (`line_end`), and what
--- was written is the line. It is a law of these five texts, without induction, and says nothing of what a call that
--- failed left.
 use Rattle.std.proofs.Common.{◌≡◌, ℕ, List, [], ◌∷◌, ◌++◌, sym, subst, append_assoc, append-nil}
 use Rattle.std.specs.List.{concat}
 use Rattle.text_out.specs.Wrote.{Given, Wrote}

@@ -71,8 +71,8 @@ pub fn short_scripts_have_short_sequencers()
 
 /// The sequencers of the hardware of a network give its scripts, so the design does at each edge of the clock what the clocked run
 /// does at each clock, where no stream stalls. That of a network that is sound for a nest takes exactly as many clocks, and by then
-/// its sinks have given out the arrays after the nest. Each fire finds a value in each slot that it reads. This is said of the
-/// registers that its text is to have, and not of what a tool makes of the text.
+/// its sinks have fired the arrays after the nest. Each fire finds a value in each slot that it reads. This is said of registers
+/// that stand for those of its text (a count of fires for its loop counters), and not of what a tool makes of the text.
 pub fn designs_run_by_clock()
     ensures scripts { (nest : Nest) (network : Network) (units : List Unit)
         → IsShaped (net_of network) (points_of nest) → AreUnitsOf nest network units

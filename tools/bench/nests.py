@@ -105,7 +105,7 @@ EXAMPLES_OF_POLYBENCH = (
     "2mm cholesky fdtd_2d floyd_warshall gemm jacobi_1d jacobi_2d lu nussinov seidel_2d syrk trisolv".split()
 )
 OTHER_EXAMPLES = "butterfly fir gauss_seidel image_pipeline matrix_product red_black running_sum sobel upsampling wavelet".split()
-PAPERS = {
+SMALL = {
     "running sum": "in x[N]; out s[N]; for i s[i] = s[i - 1] + x[i];",
     "even cells": "in x[N]; out y[N]; var a[N]; for i a[2 * i] = x[i]; for i y[i] = a[i];",
     "loop of step 2": "in x[N]; out y[N]; for i+2 y[i] = x[i];",
@@ -126,7 +126,7 @@ def whole(short: str) -> bytes:
 
 
 def kernels() -> Iterator[Nest]:
-    for name, short in PAPERS.items():
+    for name, short in SMALL.items():
         yield Nest("small", name, whole(short))
     for name in sorted([*POLYBENCH, *EXAMPLES_OF_POLYBENCH], key=str.lower):
         source = whole(POLYBENCH[name]) if name in POLYBENCH else (EXAMPLES / f"{name}.loop").read_bytes()

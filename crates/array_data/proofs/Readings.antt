@@ -7,7 +7,7 @@
 -- that are there, unless one before it was none (`values_behind`).
 use Rattle.std.proofs.Common.{ℕ, zero, suc, get_or, ℤ, List, ◌≡◌, ◌≢◌, ◌+◌, ◌<◌, ◌≤◌, ◌∷◌, ◌++◌, [], map, length, append_assoc, Bool, true, false}
 use Rattle.std.proofs.Common.{Option, Some, None, Result, Ok, Err, refl, sym, ◌∙◌, ap, arith, inl, inr}
-use Rattle.std.specs.Prelude.{OnOk, is_some, ok_or, slice_index_or}
+use Rattle.std.specs.Prelude.{is_some, ok_or, slice_index_or}
 use Rattle.std.proofs.lemmas.Bool.{cases_Bool, and_parts, eqb-true}
 use Rattle.std.proofs.lemmas.List.{length-map, length_push, map-append}
 use Rattle.csv.specs.declared.parser.Action.TheVariants as act
@@ -195,10 +195,6 @@ pub unvalued : (number n : ℕ) (o : Option ℤ) (values : List ℤ) (fault : Op
     → held number values (Some n) ≡ with_value number n o (held number values fault)
 unvalued number n o values None e f = rw f refl
 unvalued number n o values (Some at) e f = cc e
-
-pub on_ok_then : {A E P Q : Type 0} (r : Result A E) → OnOk r P → (P → Q) → OnOk r Q
-on_ok_then (Ok value) h f = f h
-on_ok_then (Err error) h f = tt
 
 -- The judgement of a record
 

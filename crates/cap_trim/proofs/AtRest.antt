@@ -29,9 +29,10 @@ use Rattle.witness_plan.proofs.Downward.{events_left, left_first, left_less}
 use Rattle.witness_plan.proofs.OtherCapacities.{wired_at}
 use Rattle.cap_trim.specs.Rests.{IsLeastRun, StopsAtRest, can_end, least_enabled, least_run, least_run_from}
 use Rattle.cap_trim.specs.Rests.{rest}
-use Rattle.cap_trim.proofs.FirstPass.{all_from, all_pass, find_is, find_none}
+use Rattle.cap_trim.proofs.FirstPass.{all_from, all_pass, find_is}
 use Rattle.cap_trim.proofs.MoreRoom.{run_roomier}
 use Rattle.plain_data.proofs.Options.{by_option}
+use Rattle.plain_data.proofs.Lists.{find-range_with_len_none}
 
 -- The least-process run
 
@@ -137,8 +138,8 @@ module _ (n : Net) (wired : IsWired n) where
       elim (cases_lt q n.processes) [
         | inl lt ↦
             sym (enabled_here q)
-            ∙ find_none (enabled n (reached n tags (least_run n))) n.processes 0 q none_enabled (omega arith)
-            (omega arith)
+            ∙ find-range_with_len_none (enabled n (reached n tags (least_run n))) 0 n.processes none_enabled q
+            (omega arith) (omega arith)
         | inr le ↦
             let nothing : length (n.script q) ≡ 0 = ap length (wired.bounded q le) in
             ap (can_come_at n cut_at_rest) (slice_get_past (n.script q) (cut_at_rest q) (omega arith))

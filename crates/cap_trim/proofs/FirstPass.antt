@@ -1,5 +1,5 @@
 -- The first number of a range that passes a test.
-use Rattle.std.proofs.Common.{◌≡◌, ℕ, zero, suc, ◌+◌, ◌-◌, ◌<◌, ◌≤◌, Bool, true, false, cond, Some, None}
+use Rattle.std.proofs.Common.{◌≡◌, ℕ, zero, suc, ◌+◌, ◌-◌, ◌<◌, ◌≤◌, Bool, true, false, cond, Some}
 use Rattle.std.proofs.Common.{sym, ap, ◌∙◌, subst, refl, inl, inr, arith}
 use Rattle.std.proofs.lemmas.Bool.{and_from, and_parts, cases_Bool, cases_eq, cases_lt}
 use Rattle.std.specs.List.{find, list_all, range_with_len}
@@ -27,21 +27,6 @@ found_later test a m lt off =
 
 above : (a q : ℕ) → a ≤ q → (q ≡ a → ⊥) → a + 1 ≤ q
 above a q low other = elim (cases_lt a q) [ inl lt ↦ omega arith | inr ge ↦ absurd (other (omega arith)) ]
-
--- where none is found, none passes
-pub find_none : (test : ℕ → Bool) (m a q : ℕ) → find test (range_with_len a m) ≡ None → a ≤ q → q < a + m
-    → test q ≡ false
-find_none test zero a q is low lt = absurd (omega arith)
-find_none test (suc m) a q is low lt =
-    elim (cases_Bool (test a)) [
-      | inl on ↦ let found : Some a ≡ None = sym (find_here test a m on) ∙ is in cc
-      | inr off ↦
-          elim (cases_eq q a) [
-            | inl same ↦ subst (λ r. test r ≡ false) (sym same) off
-            | inr other ↦
-                find_none test m (a + 1) q (sym (find_later test a m off) ∙ is) (above a q low other) (omega arith)
-          ]
-    ]
 
 -- the one that is found is there, and passes
 pub find_is : (test : ℕ → Bool) (m a p : ℕ) → find test (range_with_len a m) ≡ Some p

@@ -11,6 +11,7 @@ use Rattle.std.proofs.Common.{eqb-true}
 use Rattle.std.specs.List.{find, range_with_len}
 use Rattle.std.proofs.lemmas.Bool.{cases_Bool, cases_lt, le-ltb}
 use Rattle.std.proofs.lemmas.Option.{slice_get_past}
+use Rattle.plain_data.proofs.Lists.{find-range_with_len_none}
 use Rattle.net_core.specs.declared.network.Event.{Event}
 use Rattle.net_core.specs.declared.network.Event.TheVariants.{Get, Fire, Put}
 use Rattle.net_core.specs.Cuts.{Cut, IsCutRun, advanced, can_come_at, cut_after, enabled_at, gets_at, puts_at}
@@ -20,7 +21,7 @@ use Rattle.net_core.proofs.CutOrder.{advanced_there, gets_mono, puts_mono}
 use Rattle.net_core.proofs.Positions.{gets_advanced, puts_advanced}
 use Rattle.witness_plan.proofs.AlongCuts.{IsCutRun-append, cut_after-append}
 use Rattle.cap_trim.specs.LeastRuns.{LeadsTo, least_after}
-use Rattle.cap_trim.proofs.FirstPass.{find_is, find_least, find_none}
+use Rattle.cap_trim.proofs.FirstPass.{find_is, find_least}
 use Rattle.cap_trim.proofs.MoreRoom.{run_roomier}
 
 -- Runs from one cut to another
@@ -135,7 +136,7 @@ module _ (n : Net) (wired : IsWired n) (k : Cut) (from : ℕ) (within : from ≤
         | inl low ↦ shut q low
         | inr ge ↦
             elim (cases_lt q n.processes) [
-              | inl lt ↦ find_none (enabled_at n k) (n.processes - from) from q is ge (omega arith)
+              | inl lt ↦ find-range_with_len_none (enabled_at n k) from (n.processes - from) is q ge (omega arith)
               | inr past ↦
                   let nothing : length (n.script q) ≡ 0 = ap length (wired.bounded q past) in
                   ap (can_come_at n k) (slice_get_past (n.script q) (k q) (omega arith))

@@ -13,7 +13,7 @@ use Rattle.std.proofs.lemmas.Int.{by_lt_z, ints}
 use Rattle.std.proofs.lemmas.Option.{cond_some}
 use Rattle.affine_core.specs.declared.form.Form.{Form}
 use Rattle.affine_core.specs.Affine.{combined, form_at}
-use Rattle.affine_core.proofs.Ring.{sum_times, times_assoc, times_not_negative, times_sum}
+use Rattle.affine_core.proofs.Ring.{sum_times, times_assoc, times_sum, times_at_most}
 use Rattle.sanlp.specs.Cells.{natural}
 use Rattle.sanlp.proofs.Intervals.{natural_pos}
 use Rattle.cell_rows.specs.RowPlaces.{inside, place_after, place_from, row_limit, within_limit}
@@ -39,16 +39,6 @@ form_even sum (c ∷ coefs) [] =
     record { start = sum; slope = c; is = λ v. no_more (sum +ℤ (c *ℤ v)) coefs ∙ ap (λ z. sum +ℤ z) (*ℤ_comm c v) }
 form_even sum (c ∷ coefs) (x ∷ at) = form_even (sum +ℤ (c *ℤ x)) coefs at
 
--- products with a number that is not negative, or not positive
-later_product : (low high c : ℤ) → low ≤ℤ high → pos 0 ≤ℤ c → (low *ℤ c) ≤ℤ (high *ℤ c)
-later_product low high c le h =
-    let d : pos 0 ≤ℤ (high -ℤ low) = omega (arith, ints) in
-    let e : low +ℤ (high -ℤ low) ≡ high = omega (arith, ints) in
-    let same : (low *ℤ c) +ℤ ((high -ℤ low) *ℤ c) ≡ high *ℤ c =
-    sym (sum_times low (high -ℤ low) c) ∙ ap (λ z. z *ℤ c) e in
-    let more : pos 0 ≤ℤ ((high -ℤ low) *ℤ c) = times_not_negative (high -ℤ low) c d h in
-    omega (arith, ints)
-
 opposite_product : (a c d : ℤ) → c +ℤ d ≡ pos 0 → (a *ℤ c) +ℤ (a *ℤ d) ≡ pos 0
 opposite_product a c d e = sym (times_sum a c d) ∙ ap (λ z. a *ℤ z) e ∙ *ℤ_comm a (pos 0) ∙ zero-*ℤ a
 
@@ -59,7 +49,7 @@ earlier_product low high c le h =
     let none : c +ℤ (pos 0 -ℤ c) ≡ pos 0 = omega (arith, ints) in
     let first = opposite_product low c (pos 0 -ℤ c) none in
     let second = opposite_product high c (pos 0 -ℤ c) none in
-    let more = later_product low high (pos 0 -ℤ c) le positive in
+    let more = times_at_most low high (pos 0 -ℤ c) le positive in
     omega (arith, ints)
 
 signs : (c : ℤ) → (pos 0 ≤ℤ c) ⊎ (c ≤ℤ pos 0)
@@ -70,13 +60,13 @@ module _ (a c low high v : ℤ) (from : low ≤ℤ v) (to : v ≤ℤ high) where
   -- what is not negative at both ends is so between, and likewise with a limit
   pub not_negative_between : pos 0 ≤ℤ (a +ℤ (low *ℤ c)) → pos 0 ≤ℤ (a +ℤ (high *ℤ c)) → pos 0 ≤ℤ (a +ℤ (v *ℤ c))
   not_negative_between first last = elim (signs c) [
-    | inl h ↦ (let more = later_product low v c from h in omega (arith, ints))
+    | inl h ↦ (let more = times_at_most low v c from h in omega (arith, ints))
     | inr h ↦ (let more = earlier_product v high c to h in omega (arith, ints))
   ]
 
   pub below_between : (limit : ℤ) → (a +ℤ (low *ℤ c)) <ℤ limit → (a +ℤ (high *ℤ c)) <ℤ limit → (a +ℤ (v *ℤ c)) <ℤ limit
   below_between limit first last = elim (signs c) [
-    | inl h ↦ (let more = later_product v high c to h in omega (arith, ints))
+    | inl h ↦ (let more = times_at_most v high c to h in omega (arith, ints))
     | inr h ↦ (let more = earlier_product low v c from h in omega (arith, ints))
   ]
 

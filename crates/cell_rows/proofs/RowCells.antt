@@ -1,12 +1,12 @@
 -- Cells in rows: a place is that of one cell, and writing it changes that cell alone.
-use Rattle.std.proofs.Common.{◌≡◌, ◌<◌, ◌≤◌, ◌+◌, ◌-◌, ◌*◌, ◌/◌, ℕ, zero, suc, ℤ, pos, negsuc, List, [], ◌∷◌, ◌++◌}
+use Rattle.std.proofs.Common.{◌≡◌, ◌<◌, ◌≤◌, ◌+◌, ◌-◌, ◌*◌, ℕ, zero, suc, ℤ, pos, negsuc, List, [], ◌∷◌, ◌++◌}
 use Rattle.std.proofs.Common.{length, set, get_or, false, cond, refl, sym, ap, ◌∙◌, arith, inl, inr, append_assoc}
 use Rattle.std.specs.Prelude.{Option, Some, None, nat_lt, replicate, slice_get, ◌==◌, ◌&&◌}
 use Rattle.std.specs.Ordering.{int_eq}
 use Rattle.std.specs.Cmp.Lexicographic.{pointwise}
 use Rattle.std.specs.Cmp.Rules.{signed_items}
 use Rattle.std.proofs.lemmas.Bool.{cases_Bool, eq-eqb, eqb-true, ltb-false, ltb-true, ne_eqb}
-use Rattle.std.proofs.lemmas.Nat.{div-mul-add}
+use Rattle.std.proofs.lemmas.Nat.{same_from_place}
 use Rattle.std.proofs.lemmas.Option.{cond_some}
 use Rattle.sanlp.specs.Cells.{natural}
 use Rattle.sanlp.specs.Memory.{is_cell}
@@ -28,12 +28,6 @@ after_parts before extent (pos n) place e =
     (n, refl, ltb-true n (natural extent) test.0, sym limit.1 ∙ ap (λ m. before * natural extent + m) (sym same))
 after_parts before extent (negsuc n) place e = cc e
 
-one_row : (a b width v w : ℕ) → v < width → w < width → a * width + v ≡ b * width + w → (a ≡ b) × (v ≡ w)
-one_row a b width v w first second e =
-    let same : a ≡ b = sym (div-mul-add a width v first) ∙ ap (λ n. n / width) e ∙ div-mul-add b width w second in
-    let product : a * width ≡ b * width = ap (λ n. n * width) same in
-    (same, omega (arith, product, e))
-
 -- a place is that of one cell
 pub one_cell : (before other : ℕ) (extents at q : List ℤ) (place : ℕ) → place_from before extents at ≡ Some place
     → place_from other extents q ≡ Some place → (before ≡ other) × (at ≡ q)
@@ -50,7 +44,8 @@ one_cell before other (extent ∷ extents) (v ∷ at) (w ∷ q) place e f =
     let first = after_parts before extent v a.0 a.1 in
     let second = after_parts other extent w b.0 b.1 in
     let row =
-    one_row before other (natural extent) first.0 second.0 first.2 second.2 (sym first.3 ∙ inner.0 ∙ second.3) in
+    same_from_place before first.0 other second.0 (natural extent) first.2 second.2
+    (sym first.3 ∙ inner.0 ∙ second.3) in
     let same : v ≡ w = first.1 ∙ ap (λ n. pos n) row.1 ∙ sym second.1 in
     let rest = inner.1 in
     (row.0, cc (same, rest))

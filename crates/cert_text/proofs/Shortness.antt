@@ -3,16 +3,16 @@
 -- The events of the scripts up to a process never fall as the process rises. So where none up to some process is too
 -- many, all together are few, and the least process up to which they are too many is the first that the code meets as
 -- it adds up. The code counts no script further than one past the most, which tells as well whether the sum passes it.
-use Rattle.std.proofs.Common.{◌≡◌, inl, inr, ℕ, zero, suc, ◌+◌, ◌-◌, ◌<◌, ◌≤◌, Bool, true, false, if◌then◌else◌, Option}
+use Rattle.std.proofs.Common.{◌≡◌, ℕ, ◌+◌, ◌-◌, ◌<◌, ◌≤◌, Bool, true, false, if◌then◌else◌, Option}
 use Rattle.std.proofs.Common.{Some, None, List, [], ◌∷◌, length, take, get_or, refl, sym, ap, ◌∙◌, subst, arith}
 use Rattle.std.proofs.Common.{ltb-false, le-ltb}
 use Rattle.std.specs.Prelude.{All, nat_lt, find}
 use Rattle.std.specs.Option.{option_or}
 use Rattle.std.specs.List.{range_with_len, sum_by}
-use Rattle.std.proofs.lemmas.Bool.{cases_Bool, cases_lt}
 use Rattle.std.proofs.lemmas.List.{get_or-map, length-map, take_all}
 use Rattle.std.proofs.lemmas.List.Sums.{sum_by-cons, sum_by-take-le, sum_by_more, sum_by_more_le}
 use Rattle.std.proofs.iter.Rest.{range_with_len_first}
+use Rattle.plain_data.proofs.Lists.{find-range_with_len_none}
 use Rattle.net_core.specs.declared.network.Event.{Event}
 use Rattle.cert_text.specs.declared.kept.KeptProcess.{KeptProcess}
 use Rattle.cert_text.specs.Folding.{are_long_to, long_script, most_events, too_long}
@@ -21,18 +21,6 @@ use Rattle.cert_text.specs.Kept.{scripts_of}
 find_none : {X : Type 0} (p : X → Bool) (xs : List X) → ((x : X) → p x ≡ false) → find p xs ≡ None
 find_none p [] never = refl
 find_none p (x ∷ xs) never = rw (never x) (find_none p xs never)
-
--- where none of a range is found each fails the test
-none_in : (p : ℕ → Bool) (a n : ℕ) → find p (range_with_len a n) ≡ None → (m : ℕ) → a ≤ m → m < a + n → p m ≡ false
-none_in p a zero e m above below = absurd (omega arith)
-none_in p a (suc n) e m above below = elim (cases_Bool (p a)) [
-  | inl here ↦ let found : ◌≡◌ {A = Option ℕ} (Some a) None = rw here at e in absurd (cc found)
-  | inr passed ↦ elim (cases_lt a m) [
-    | inl later ↦ let rest : find p (range_with_len (a + 1) n) ≡ None = rw passed at e
-        in none_in p (a + 1) n rest m (omega arith) (omega arith)
-    | inr first ↦ let same : m ≡ a = omega arith in rw same passed
-  ]
-]
 
 pub short_so : (scripts : List (List Event)) (schedule : List ℕ) → sum_by length scripts ≤ most_events
     → length schedule ≤ most_events → too_long scripts schedule ≡ None
@@ -58,7 +46,8 @@ all_events : (scripts : List (List Event)) → long_script scripts ≡ None → 
 all_events [] e = omega arith
 all_events (s ∷ more) e =
     let n = length more in
-    let fails = none_in (are_long_to (s ∷ more)) 0 (length (s ∷ more)) e n (omega arith) (omega arith) in
+    let fails = find-range_with_len_none (are_long_to (s ∷ more)) 0 (length (s ∷ more))
+    e n (omega arith) (omega arith) in
     let le = ltb-false most_events (sum_by length (take (n + 1) (s ∷ more))) fails in
     subst (λ (xs : List (List Event)). sum_by length xs ≤ most_events) (take_all (n + 1) (s ∷ more) (omega arith)) le
 

@@ -6,17 +6,17 @@
 -- which is a hypothesis here (`OneTree`). Nests are alike in arrays, statements and body; the verdict and the automata
 -- don't depend on the facts that a nest keeps. Success is the same comparison, with what a valid order allows. Only
 -- statuses are compared, not texts.
-use Rattle.std.proofs.Common.{◌≡◌, ◌≤◌, ℕ, suc, ℤ, List, [], length, drop, Option, Some, None, Result, Ok, Err, refl, sym, ap, ◌∙◌, subst, arith, map, inl, inr, take-append-drop}
+use Rattle.std.proofs.Common.{◌≡◌, ◌≤◌, ℕ, ℤ, List, [], length, Option, Some, None, Result, Ok, Err, refl, sym, ap, ◌∙◌, subst, arith, map, inl, inr}
 use Rattle.sanlp.specs.WellFormed.{IsWellFormed}
 use Rattle.std.specs.Prelude.{◌<◌, IsTrue, slice_get}
 use Rattle.std.specs.List.{list_all, sum_by}
 use Rattle.std.specs.Option.{option_and_then, option_map, option_map_or}
-use Rattle.std.proofs.lemmas.Bool.{cases_lt}
 use Rattle.std.proofs.lemmas.Option.{same_Some}
+use Rattle.loop_parse.proofs.Runs.{stops_no_tree}
 use Rattle.loop_lex.specs.Tokens.{tokens}
 use Rattle.loop_lex.specs.declared.token.Token.{Token}
 use Rattle.loop_lex.specs.declared.token.LexError.{LexError}
-use Rattle.loop_grammar.specs.Grammar.{Stops, Derives, Tok}
+use Rattle.loop_grammar.specs.Grammar.{Stops}
 use Rattle.loop_grammar.specs.Lexemes.{IsTree, sentence}
 use Rattle.loop_grammar.specs.declared.tree.Tree.{Tree}
 use Rattle.loop_bind.specs.Findings.{findings}
@@ -95,15 +95,6 @@ OneTree = (bytes : List ℕ) (found : List Token) (a b : Tree) → IsTree bytes 
 
 -- ---- a source comes to one end
 
--- where the tokens have a tree, no place is refused
-no_place : (list : List Tok) (place : ℕ) (tree : Tree) → Stops list place → Derives list tree → ⊥
-no_place list place tree stops derived =
-    elim (cases_lt place (length list)) [
-      | inl before ↦ stops.there before
-          (drop (suc place) list, derived.0, derived.1 ∙ sym (take-append-drop (suc place) list))
-      | inr behind ↦ stops.at_end (omega (arith, stops.within)) tree derived
-    ]
-
 -- both are nests of the same parts, or both are refusals of one status
 abbrev pub Alike : Result Nest Refusal → Result Nest Refusal → Type 0
 Alike (Ok n) (Ok m) = (n.arrays ≡ m.arrays) × (n.statements ≡ m.statements) × (n.body ≡ m.body)
@@ -129,7 +120,7 @@ no_tree_at_place : (source : List ℕ) (a b : List Token) (place : ℕ) (tree : 
     → tokens source ≡ Ok b
     → Stops (sentence source a) place → IsTree source b tree → ⊥
 no_tree_at_place source a b place tree x y stops derived =
-    no_place (sentence source a) place tree stops
+    stops_no_tree (sentence source a) place stops tree
     (subst (λ (l : List Token). IsTree source l tree) (same_list source b a y x) derived)
 
 -- the trees of a source are one

@@ -38,12 +38,12 @@ use Rattle.derived_names.proofs.Fires.{no_fire_behind, no_fire_first}
 use Rattle.derived_names.proofs.SlotTokens.{finds_token, points_after, script_splits}
 use Rattle.derived_names.proofs.Gets.{before_fire, events_before, events_split, exists, point_gets, point_refs}
 use Rattle.derived_names.proofs.Gets.{source_at_fire}
-use Rattle.derived_names.proofs.Lists.{drop_next, one_joined}
+use Rattle.derived_names.proofs.Lists.{one_joined}
 use Rattle.derived_names.proofs.Names.{token_is}
 use Rattle.derived_names.proofs.UsesOfFires.{no_use, source_same, turns_read, use_here, use_is, used_where}
 use Rattle.derived_names.proofs.UsesAlong.{fire_adds, passed}
 use Rattle.derived_names.proofs.UsesOfReads.{named_by_all, named_by_fire, token_named}
-use Rattle.plain_data.proofs.Lists.{slice_get-some}
+use Rattle.plain_data.proofs.Lists.{slice_get-some, drop_parts}
 
 -- Uses of fires
 
@@ -142,7 +142,7 @@ module _ (n : Nest) (p k w c : ℕ) (found : slice_get (plans_of n) c ≡ Some (
       ∙ omega arith in
       ap (uses_before network c p) last
       ∙ passed network c p (suc at) puts (points_after n p f)
-      (drop_next events at (Fire (point_refs n p f)) behind then) (no_fire_behind 0 (plans_of n) p f)
+      (drop_parts events at (Fire (point_refs n p f)) behind then).1 (no_fire_behind 0 (plans_of n) p f)
       ∙ fire_adds network c p at (point_refs n p f) behind then
       ∙ ap (λ us. uses_before network c p at ++ us) (fire_uses f fire)
       ∙ ap (λ us. us ++ name f)

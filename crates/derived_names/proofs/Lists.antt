@@ -1,5 +1,5 @@
 -- Joined lists of which one part alone has items, lists with one item replaced, and what follows a front.
-use Rattle.std.proofs.Common.{◌≡◌, ℕ, zero, suc, ◌+◌, ◌<◌, ◌≤◌, Some, List, [], ◌∷◌, ◌++◌, length, drop, slice_get}
+use Rattle.std.proofs.Common.{◌≡◌, ℕ, zero, suc, ◌+◌, ◌<◌, ◌≤◌, Some, List, [], ◌∷◌, ◌++◌, length, slice_get}
 use Rattle.std.proofs.Common.{refl, ap, ◌∙◌, inl, inr, arith}
 use Rattle.std.specs.Prelude.{slice_set}
 use Rattle.std.specs.List.{flat_map, range_with_len}
@@ -48,17 +48,3 @@ get_set_other (x ∷ xs) (suc i) zero y ne = refl
 get_set_other (x ∷ xs) (suc i) (suc j) y ne = get_set_other xs i j y (λ e. ne (ap suc e))
 
 -- What follows a front
-
-pub get_dropped : {X : Type 0} (xs : List X) (k : ℕ) (x : X) (rest : List X) → drop k xs ≡ x ∷ rest
-    → slice_get xs k ≡ Some x
-get_dropped [] zero x rest e = cc
-get_dropped [] (suc k) x rest e = cc
-get_dropped (y ∷ xs) zero x rest e = cc
-get_dropped (y ∷ xs) (suc k) x rest e = get_dropped xs k x rest e
-
-pub drop_next : {X : Type 0} (xs : List X) (k : ℕ) (x : X) (rest : List X) → drop k xs ≡ x ∷ rest
-    → drop (suc k) xs ≡ rest
-drop_next [] zero x rest e = cc
-drop_next [] (suc k) x rest e = cc
-drop_next (y ∷ xs) zero x rest e = cc
-drop_next (y ∷ xs) (suc k) x rest e = drop_next xs k x rest e

@@ -45,6 +45,10 @@ pub past_part : (place : List Form) (part : Part) → row_part place part (lengt
 past_part [] part = refl
 past_part (f ∷ place) part = past_part place part
 
+pub past_part_at : (place : List Form) (depth : ℕ) (part : Part) → length place ≡ depth
+    → row_part place part depth ≡ pos 0
+past_part_at place depth part deep = ap (row_part place part) (sym deep) ∙ past_part place part
+
 pub none_node : (c : ℤ) (cs : List ℤ) → how_many c cs ≡ 0 → node_of c cs ≡ length cs
 none_node c [] e = refl
 none_node c (d ∷ cs) e = go (λ none. none_node c cs none) (int_eq d c) refl where

@@ -23,7 +23,8 @@ use Rattle.difference_graphs.specs.Class.{is_difference}
 use Rattle.difference_graphs.specs.Edges.{domain_edge_of, edge_parts, node_of, AreEdges, AddsEdges, IsEdge, IsKept}
 use Rattle.difference_graphs.specs.declared.edges.Edge.{Edge}
 use Rattle.difference_graphs.specs.declared.writes.Writes.{Writes}
-use Rattle.difference_graphs.proofs.Differences.{IsShifted, difference_at, differences_are, shift_at, shifts_are, past_part}
+use Rattle.difference_graphs.proofs.Differences.{IsShifted, difference_at, differences_are, shift_at, shifts_are}
+use Rattle.difference_graphs.proofs.Differences.{past_part_at}
 use Rattle.difference_graphs.proofs.ProblemBounds.{FormFits, form_is}
 use Rattle.difference_graphs.proofs.Small.{negative_over, negative_within, number_within}
 use Rattle.plain_data.proofs.Lists.{get_or-replicate_same}
@@ -160,20 +161,29 @@ module _ (vars depth : ℕ) (write read : Form) (f : FormFits depth write) (h : 
   }
 
   module _ (place : List Form) (part : Part) (deep : length place ≡ depth) where
-    nothing_behind : row_part place part depth ≡ pos 0
-    nothing_behind = ap (row_part place part) (sym deep) ∙ past_part place part
-
     at_write : parts_of (at_place write place) part
         ≡ part_of part constant +ℤ row_part place part (node_of (pos 1) write.coefs)
     at_write = shift_at vars write place part (f.over ∙ sym deep) s
 
     pub write_row : parts_of (minus (at_place write place) (Take read)) part ≡ edge_parts place write_edge part
     write_row =
-        omega (arith, ints, at_write, nothing_behind, weight_part vars constant read part (length_zeros vars) h.over)
+        omega (
+          arith,
+          ints,
+          at_write,
+          past_part_at place depth part deep,
+          weight_part vars constant read part (length_zeros vars) h.over,
+        )
 
     pub read_row : parts_of (minus (Take read) (at_place write place)) part ≡ edge_parts place read_edge part
-    read_row = omega
-        (arith, ints, at_write, nothing_behind, weight_part vars read constant part h.over (length_zeros vars))
+    read_row =
+        omega (
+          arith,
+          ints,
+          at_write,
+          past_part_at place depth part deep,
+          weight_part vars read constant part h.over (length_zeros vars),
+        )
 
 -- The functions that add edges
 

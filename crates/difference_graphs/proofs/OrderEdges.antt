@@ -7,7 +7,6 @@ use Rattle.std.proofs.Common.{◌≡◌, ◌+◌, ◌-◌, ◌*◌, ◌^◌, ◌
 use Rattle.std.proofs.Common.{[], ◌∷◌, ◌++◌, length, map, drop, replicate, Bool, refl, sym, ap, ◌∙◌}
 use Rattle.std.proofs.Common.{subst, arith, append_assoc, length-append}
 use Rattle.std.specs.Prelude.{Some, All, slice_get, slice_index_or, nat_lt, unsigned_abs}
-use Rattle.std.specs.Option.{option_map_or}
 use Rattle.std.proofs.lemmas.Int.{ints}
 use Rattle.std.proofs.lemmas.List.Elements.{All-nil, All-cons, All-append, All-replicate}
 use Rattle.std.proofs.lemmas.Option.{same_Some, slice_get-map}
@@ -20,15 +19,15 @@ use Rattle.difference_graphs.specs.Level.{common_of}
 use Rattle.difference_graphs.specs.declared.edges.Edge.{Edge}
 use Rattle.difference_graphs.specs.declared.writes.Writes.{Writes}
 use Rattle.difference_graphs.proofs.EdgeRows.{edges_more}
-use Rattle.difference_graphs.proofs.Differences.{past_part}
+use Rattle.difference_graphs.proofs.Differences.{past_part_at}
 use Rattle.difference_graphs.proofs.ProblemBounds.{IsKnown}
 use Rattle.difference_graphs.proofs.Small.{negative_over, negative_within}
 use Rattle.plain_data.proofs.Options.{option_map-some}
 use Rattle.plain_data.proofs.Lists.{get_or-replicate_same}
 use Rattle.row_sums.specs.Made.{parts_of}
-use Rattle.row_sums.specs.Parts.{Part, the_constant, the_coefficient, part_of, row_part, IsWithin}
+use Rattle.row_sums.specs.Parts.{Part, the_constant, the_coefficient, part_of, IsWithin}
 use Rattle.row_sums.proofs.Ideal.{product_part}
-use Rattle.row_sums.proofs.Within.{IsWithin-weaker}
+use Rattle.row_sums.proofs.Within.{IsWithin-weaker, row_part-some}
 use Rattle.source_tree.specs.Places.{cell_rows, domain_rows, order_rows, variables}
 use Rattle.source_tree.specs.Rows.{RowExpr, Take, minus, one_less, equal_rows}
 use Rattle.source_tree.specs.Systems.{reader_place}
@@ -182,23 +181,33 @@ module _ (vars depth i : ℕ) (below : i < vars) (inside : i < depth) where
 
   module _ (place : List Form) (v x : Form) (deep : length place ≡ depth) (v_is : slice_get place i ≡ Some v)
       (x_is : variable_form (i + 1) i ≡ x) (part : Part) where
-    behind : row_part place part depth ≡ pos 0
-    behind = ap (row_part place part) (sym deep) ∙ past_part place part
-
-    at_v : row_part place part i ≡ part_of part v
-    at_v = ap (λ o. option_map_or (part_of part) o (pos 0)) v_is
-
     at_x : part_of part value ≡ part_of part x
     at_x = variable_part vars (i + 1) i part ∙ ap (part_of part) x_is
 
     pub later_row : parts_of (minus (Take v) (Take x)) part ≡ edge_parts place (later_edge vars depth i) part
-    later_row = omega (arith, ints, behind, at_v, at_x, product_part part (negsuc 0) value)
+    later_row =
+        omega (
+          arith,
+          ints,
+          past_part_at place depth part deep,
+          row_part-some place i v part v_is,
+          at_x,
+          product_part part (negsuc 0) value,
+        )
 
     pub earlier_row : parts_of (minus (Take x) (Take v)) part ≡ edge_parts place (earlier_edge vars depth i) part
-    earlier_row = omega (arith, ints, behind, at_v, at_x)
+    earlier_row = omega (arith, ints, past_part_at place depth part deep, row_part-some place i v part v_is, at_x)
 
     pub strict_parts : parts_of (strict_row v x) part ≡ edge_parts place (strict_edge vars depth i) part
-    strict_parts = omega (arith, ints, behind, at_v, at_x, raised_part value (negsuc 0) part)
+    strict_parts =
+        omega (
+          arith,
+          ints,
+          past_part_at place depth part deep,
+          row_part-some place i v part v_is,
+          at_x,
+          raised_part value (negsuc 0) part,
+        )
 
 module _ (w : Writes) (from : ℕ) (old : List Edge) where
   abbrev vars : ℕ

@@ -3,7 +3,7 @@
 -- Each step takes the first of the proofs that are told, as many as the systems it is for, and adds as many. What is
 -- left is for the steps behind it, whatever they are for, so two steps in sequence are one for the systems of both.
 use Rattle.std.proofs.Common.{◌≡◌, List, [], ◌∷◌, ◌++◌, sym, subst}
-use Rattle.std.specs.Prelude.{Result, Ok, Err, OnOk, Option, Some, None, IfSome, MatchOption}
+use Rattle.std.specs.Prelude.{Result, Ok, Err, OnOk}
 use Rattle.std.proofs.lemmas.List.{append_assoc, append-nil}
 use Rattle.int_polyhedra.specs.declared.system.Proof.{Proof}
 use Rattle.last_writer.specs.Leaves.{AddsProofs}
@@ -42,12 +42,3 @@ adds_own to told old new h = λ before more a b. (h before a, b)
 pub on_ok_both : {T E : Type 0} (P Q : Type 0) (r : Result T E) → OnOk r P → OnOk r Q → OnOk r (P × Q)
 on_ok_both P Q (Ok x) p q = (p, q)
 on_ok_both P Q (Err e) p q = tt
-
-pub if_some_weaker : {T : Type 0} (o : Option T) (P Q : T → Type 0) → ((x : T) → P x → Q x) → IfSome o P → IfSome o Q
-if_some_weaker None P Q f h = tt
-if_some_weaker (Some x) P Q f h = f x h
-
-pub match_weaker : {T A B : Type 0} (o : Option T) (P Q : T → Type 0) → (A → B) → ((x : T) → P x → Q x)
-    → MatchOption o A P → MatchOption o B Q
-match_weaker None P Q f g h = f h
-match_weaker (Some x) P Q f g h = g x h

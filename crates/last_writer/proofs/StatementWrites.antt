@@ -4,7 +4,7 @@
 -- others are those from the next number on. A statement adds its write, or none, so the writes of the first and of the
 -- others are those of all, their counts add up, and a bound on all leaves room for the first. A write that stands
 -- before the read at some level stands before it at the outermost.
-use Rattle.std.proofs.Common.{◌≡◌, ◌+◌, ◌≤◌, ◌<◌, ℕ, zero, suc, Bool, true, false, List, [], ◌∷◌, ◌++◌, length, drop, refl, sym, ap, ◌∙◌, arith}
+use Rattle.std.proofs.Common.{◌≡◌, ◌+◌, ◌≤◌, ◌<◌, ℕ, Bool, true, false, List, [], ◌++◌, refl, ap, ◌∙◌, arith}
 use Rattle.std.proofs.Common.{lt-ltb}
 use Rattle.std.specs.Prelude.{Option, Some, None, IfSome, IsTrue, nat_lt, slice_get}
 use Rattle.std.specs.List.{list_all, sum_by}
@@ -22,33 +22,6 @@ use Rattle.source_tree.specs.Systems.{Occurrence, with_write, write_to}
 use Rattle.source_tree.specs.References.{occurrence_of}
 use Rattle.stride_rows.specs.Class.{stride_count, writes_strides}
 use Rattle.stride_trees.specs.Strides.{AreStrided}
-
-abbrev rest_of : {X : Type 0} → List X → List X
-rest_of [] = []
-rest_of (x ∷ xs) = xs
-
-drop_none : {X : Type 0} (xs : List X) → drop 0 xs ≡ xs
-drop_none [] = refl
-drop_none (x ∷ xs) = refl
-
-drop_nil : {X : Type 0} (n : ℕ) → drop {A = X} n [] ≡ []
-drop_nil zero = refl
-drop_nil (suc n) = refl
-
-pub from_here : {X : Type 0} (n : ℕ) (xs : List X) (x : X) (rest : List X) → drop n xs ≡ x ∷ rest
-    → slice_get xs n ≡ Some x
-from_here zero xs x rest e = ap (λ ys. slice_get ys 0) (sym (drop_none xs) ∙ e)
-from_here (suc n) [] x rest e = absurd (omega (arith, ap length (sym (drop_nil (suc n)) ∙ e)))
-from_here (suc n) (y ∷ xs) x rest e = from_here n xs x rest e
-
-pub from_next : {X : Type 0} (n : ℕ) (xs : List X) (x : X) (rest : List X) → drop n xs ≡ x ∷ rest
-    → drop (n + 1) xs ≡ rest
-from_next zero [] x rest e = absurd (omega (arith, ap length (sym (drop_nil 0) ∙ e)))
-from_next zero (y ∷ xs) x rest e = drop_none xs ∙ ap rest_of (sym (drop_none (y ∷ xs)) ∙ e)
-from_next (suc n) [] x rest e = absurd (omega (arith, ap length (sym (drop_nil (suc n)) ∙ e)))
-from_next (suc n) (y ∷ xs) x rest e =
-    let more : suc n + 1 ≡ suc (n + 1) = omega arith in
-    ap (λ k. drop k (y ∷ xs)) more ∙ from_next n xs x rest e
 
 -- The write of one statement, and those of the others
 

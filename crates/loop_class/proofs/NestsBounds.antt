@@ -17,7 +17,7 @@ use Rattle.loop_grammar.specs.declared.tree.BinarySign.{BinarySign}
 use Rattle.loop_grammar.specs.declared.tree.BinarySign.TheVariants as sign
 use Rattle.loop_grammar.specs.declared.tree.Operand.{Operand}
 use Rattle.loop_grammar.specs.declared.tree.Operand.TheOpen.{Operand-F, Number, Access, Binary, Neg, Min, Max}
-use Rattle.loop_grammar.specs.declared.tree.Operand.TheFolds.{map-Operand, fold-roll-Operand, ind-Operand}
+use Rattle.loop_grammar.specs.declared.tree.Operand.TheFolds.{map-Operand, ind-Operand}
 use Rattle.loop_grammar.specs.declared.tree.Operand.TheViews.{roll-Operand}
 use Rattle.loop_grammar.specs.declared.tree.Step.{Step}
 use Rattle.loop_grammar.specs.declared.tree.Step.TheVariants.{One, By}
@@ -41,7 +41,7 @@ use Rattle.loop_bind.specs.Reasons.{found_if}
 use Rattle.loop_bind.specs.Rows.{lower_forms, upper_forms}
 use Rattle.loop_class.proofs.NestsSizes.{IsForm, AreBounds}
 use Rattle.loop_class.proofs.NestsScope.{KnownScope, IsFormIfAny, formed, forms_are, lower_bounds, upper_bounds}
-use Rattle.loop_class.proofs.NestsScope.{some_lower, some_upper}
+use Rattle.loop_class.proofs.NestsScope.{some_lower, some_upper, judged_roll}
 use Rattle.loop_class.proofs.NestsValues.{none_left, none_right, found_none}
 
 -- where no reason stands there is a form
@@ -92,11 +92,6 @@ module _ (place : Place) (scope : Scope) where
   abbrev Part : Type 0
   Part = (o : Operand) × SureOf o
 
-  judged_roll : (y : Operand-F Operand)
-      → judged place scope (roll-Operand y) ≡ judge_step place scope (map-Operand Operand Judged (judged place scope) y)
-  unfolding judged
-  judged_roll y = fold-roll-Operand Judged (judge_step place scope) y
-
   step_sure : (y : Operand-F Part)
       → Sure (judge_step place scope
       (map-Operand Operand Judged (judged place scope) (map-Operand Part Operand (λ e. e.0) y)))
@@ -128,7 +123,7 @@ module _ (place : Place) (scope : Scope) where
   sure : (o : Operand) → SureOf o
   sure = ind-Operand SureOf
       (λ x y is. subst (λ z. SureOf (roll-Operand z)) is
-      (subst Sure (sym (judged_roll (map-Operand Part Operand (λ e. e.0) y))) (step_sure y)))
+      (subst Sure (sym (judged_roll place scope (map-Operand Part Operand (λ e. e.0) y))) (step_sure y)))
 
 one_of_three : (k : ℤ) → int_eq k (pos 1) ≡ false → int_lt (pos 1) k ≡ false → int_lt k (pos 1) ≡ false → ⊥
 one_of_three k e f g = grind (arith, ints)

@@ -82,6 +82,12 @@ known_deeper arrays d scope h =
       one (Loop v) k = omega arith
       one (Progression f) k = over_deeper 6 d (suc d) f.coefs (omega arith) k
 
+-- how an operand is judged is a step over how its parts are
+pub judged_roll : (place : Place) (scope : Scope) (y : Operand-F Operand)
+    → judged place scope (roll-Operand y) ≡ judge_step place scope (map-Operand Operand Judged (judged place scope) y)
+unfolding judged
+judged_roll place scope y = fold-roll-Operand Judged (judge_step place scope) y
+
 -- a form that is there is one of so many loops
 abbrev pub IsFormIfAny : ℕ → Option Affine → Type 0
 IsFormIfAny d None = Unit {0}
@@ -141,12 +147,6 @@ module _ (arrays : List ArrayDecl) (d : ℕ) (scope : Scope) (known : KnownScope
     abbrev pub Formed : Operand → Type 0
     Formed o = IsFormIfAny d (judged place scope o).form
 
-    judged_roll : (y : Operand-F Operand)
-        → judged place scope (roll-Operand y)
-        ≡ judge_step place scope (map-Operand Operand Judged (judged place scope) y)
-    unfolding judged
-    judged_roll y = fold-roll-Operand Judged (judge_step place scope) y
-
     abbrev StepFormed : Operand-F Operand → Type 0
     StepFormed y = IsFormIfAny d (judge_step place scope (map-Operand Operand Judged (judged place scope) y)).form
 
@@ -166,7 +166,7 @@ module _ (arrays : List ArrayDecl) (d : ℕ) (scope : Scope) (known : KnownScope
     formed =
         ind-Operand Formed (λ x y is. subst (λ z. Formed (roll-Operand z)) is
         (subst (λ j. IsFormIfAny d j.form)
-        (sym (judged_roll (map-Operand ((o : Operand) × Formed o) Operand (λ e. e.0) y))) (step_formed y)))
+        (sym (judged_roll place scope (map-Operand ((o : Operand) × Formed o) Operand (λ e. e.0) y))) (step_formed y)))
 
     or_zero : (o : Option Affine) → IsFormIfAny d o → IsForm d (unwrap_or o (constant_form (pos 0)))
     or_zero None h = record { over = over_zeros 6 d; limited = refl }

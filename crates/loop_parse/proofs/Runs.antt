@@ -110,7 +110,7 @@ place_there tokens k h = record {
   ];
 }
 
-stops_no_tree : (tokens : List Tok) (k : ℕ) → Stops tokens k → (tree : Tree) → Derives tokens tree → ⊥
+pub stops_no_tree : (tokens : List Tok) (k : ℕ) → Stops tokens k → (tree : Tree) → Derives tokens tree → ⊥
 stops_no_tree tokens k stops tree is = elim (cases_lt k (length tokens)) [
   | inl lt ↦ stops.there lt (drop (suc k) tokens, is.0, is.1 ∙ sym (take-append-drop (suc k) tokens))
   | inr le ↦ stops.at_end (omega (arith, stops.within)) tree is

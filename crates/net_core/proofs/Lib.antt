@@ -21,3 +21,4 @@ pub mod EventTotals
 pub mod Vectors
 pub mod Latest
 pub mod Scripts
+pub mod SinkLists

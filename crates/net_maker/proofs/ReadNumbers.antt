@@ -3,13 +3,12 @@
 -- Reads are numbered by their statement, and then by their place among its reads, so each number is that of one read
 -- alone. Therefore an origin that is added at the end stands for the read whose number is the count so far, and for no
 -- other: what held of the origins before it goes on to hold.
-use Rattle.std.proofs.Common.{◌≡◌, ◌∙◌, ◌+◌, ◌<◌, ◌≤◌, ℕ, zero, suc, List, [], ◌∷◌, ◌++◌, Some, None, length, take, refl}
-use Rattle.std.proofs.Common.{◌⊎◌, inl, inr, slice_get, sym, ap, subst, arith, take-take}
+use Rattle.std.proofs.Common.{◌≡◌, ◌∙◌, ◌+◌, ◌<◌, ◌≤◌, ℕ, List, [], ◌∷◌, ◌++◌, Some, length, take}
+use Rattle.std.proofs.Common.{inl, inr, slice_get, sym, ap, subst, arith, take-take}
 use Rattle.std.specs.List.{sum_by}
 use Rattle.std.proofs.lemmas.Bool.{cases_order}
 use Rattle.std.proofs.lemmas.List.{length_push}
 use Rattle.std.proofs.lemmas.List.Sums.{sum_by-take-le}
-use Rattle.std.proofs.lemmas.Option.{same_Some}
 use Rattle.net_checker.specs.Shapes.{read_total}
 use Rattle.net_checker.specs.Sources.{AreUsable}
 use Rattle.net_checker.proofs.Usable.{statement_there}
@@ -25,7 +24,7 @@ use Rattle.source_tree.specs.Sources.{read_number}
 use Rattle.std.proofs.Math.Seq.{take-length}
 use Rattle.tree_text.specs.TreeText.{TreeIsInRange}
 use Rattle.net_maker.specs.Origins.{HasOrigins, IsUsableOrigin}
-use Rattle.plain_data.proofs.Lists.{slice_get-some, sum_by_more_some}
+use Rattle.plain_data.proofs.Lists.{slice_get-some, sum_by_more_some, slice_get_push-cases}
 
 -- Numbers of reads
 
@@ -62,22 +61,13 @@ same_read n p s q k few less same = elim (cases_order p s) [
 
 -- One origin more
 
-more_at : {X : Type 0} (xs : List X) (x : X) (i : ℕ) (y : X) → slice_get (xs ++ x ∷ []) i ≡ Some y
-    → (slice_get xs i ≡ Some y) ⊎ ((i ≡ length xs) × (x ≡ y))
-more_at [] x zero y is = inr (refl, same_Some x y is)
-more_at [] x (suc i) y is = absurd (let none : None ≡ Some y = is in cc)
-more_at (z ∷ xs) x zero y is = inl is
-more_at (z ∷ xs) x (suc i) y is = elim (more_at xs x i y is) [
-  | inl front ↦ inl front
-  | inr end ↦ inr (ap suc end.0, end.1)
-]
-
 module _ (n : Nest) (s k : ℕ) (sources after : List Origin) (o : Origin) (few : k < read_count n s)
     (h : HasOrigins n (read_number n s k) sources) (is : after ≡ sources ++ o ∷ []) (fit : IsUsableOrigin n s k o) where
   each_more : (p q : ℕ) (x : Origin) → q < read_count n p → slice_get after (read_number n p q) ≡ Some x
       → IsUsableOrigin n p q x
   each_more p q x lt at =
-      elim (more_at sources o (read_number n p q) x (ap (λ xs. slice_get xs (read_number n p q)) (sym is) ∙ at)) [
+      elim (slice_get_push-cases sources o (read_number n p q) x
+      (ap (λ xs. slice_get xs (read_number n p q)) (sym is) ∙ at)) [
         | inl front ↦ h.each p q x lt front
         | inr end ↦
             (let same = same_read n p s q k lt few (omega (arith, h.total, end.0)) in
@@ -87,7 +77,7 @@ module _ (n : Nest) (s k : ℕ) (sources after : List Origin) (o : Origin) (few 
 
   range_more : (j : ℕ) (tree : Tree) → slice_get after j ≡ Some (origin.Tree tree) → TreeIsInRange tree
   range_more j tree at =
-      elim (more_at sources o j (origin.Tree tree) (ap (λ xs. slice_get xs j) (sym is) ∙ at)) [
+      elim (slice_get_push-cases sources o j (origin.Tree tree) (ap (λ xs. slice_get xs j) (sym is) ∙ at)) [
         | inl front ↦ h.in_range j tree front
         | inr end ↦ (subst (IsUsableOrigin n s k) end.1 fit).1
       ]

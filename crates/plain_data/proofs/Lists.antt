@@ -2,12 +2,13 @@
 -- item with `get_or`, which asks for a default; these go by `slice_get`.
 use Rattle.std.proofs.Common.{◌≡◌, ℕ, zero, suc, ◌+◌, ◌-◌, ◌<◌, ◌≤◌, List, [], ◌∷◌, ◌++◌, length, take, drop, get_or, replicate}
 use Rattle.std.proofs.Common.{Some, slice_get, All, Contains, flat_map, map, sum_by, refl, ap, ◌∙◌, sym, subst, arith, add-one}
-use Rattle.std.proofs.Common.{length-drop}
-use Rattle.std.specs.List.{AllZip, range_with_len}
+use Rattle.std.proofs.Common.{length-drop, ◌⊎◌, inl, inr, Bool, false, None}
+use Rattle.std.specs.List.{AllZip, find, range_with_len}
 use Rattle.std.proofs.lemmas.List.Elements.{All-nil, All-cons, All-append, Contains-append_right}
 use Rattle.std.proofs.lemmas.List.FromFn.{get_or-range_with_len}
 use Rattle.std.proofs.lemmas.List.Sums.{sum_by_more}
-use Rattle.std.proofs.lemmas.Option.{same_Some, slice_get_within, slice_get_read, get_or_from_slice_get}
+use Rattle.std.proofs.lemmas.Option.{none-some, same_Some, slice_get_within, slice_get_read, get_or_from_slice_get}
+use Rattle.std.proofs.lemmas.Bool.{cases_Bool, cases_lt}
 pub use Rattle.std.proofs.iter.runs.Lists.{nth_left as slice_get-append_left, nth_right as slice_get-append_right}
 pub use Rattle.std.proofs.iter.runs.Lists.{nth_seam as slice_get_push}
 
@@ -37,6 +38,17 @@ slice_get-append_cons (x ∷ xs) y ys = slice_get-append_cons xs y ys
 
 pub slice_get_push_at : {A : Type 0} (xs : List A) (y : A) (k : ℕ) → k ≡ length xs → slice_get (xs ++ y ∷ []) k ≡ Some y
 slice_get_push_at xs y k e = ap (slice_get (xs ++ y ∷ [])) e ∙ slice_get_push xs y
+
+-- an item of a list that was pushed to is one of before or the last
+pub slice_get_push-cases : {A : Type 0} (xs : List A) (y : A) (k : ℕ) (x : A) → slice_get (xs ++ y ∷ []) k ≡ Some x
+    → (slice_get xs k ≡ Some x) ⊎ ((k ≡ length xs) × (y ≡ x))
+slice_get_push-cases [] y zero x is = inr (refl, same_Some y x is)
+slice_get_push-cases [] y (suc k) x is = absurd (none-some x is)
+slice_get_push-cases (z ∷ xs) y zero x is = inl is
+slice_get_push-cases (z ∷ xs) y (suc k) x is = elim (slice_get_push-cases xs y k x is) [
+  | inl before ↦ inl before
+  | inr last ↦ inr (ap suc last.0, last.1)
+]
 
 -- the parts of a list with a first item
 pub same_head : {A : Type 0} (x y : A) (xs ys : List A) → x ∷ xs ≡ y ∷ ys → x ≡ y
@@ -134,6 +146,20 @@ Contains-first x xs = (0, omega arith, refl)
 
 pub Contains-later : {A : Type 0} (x : A) (xs : List A) (y : A) → Contains xs y → Contains (x ∷ xs) y
 Contains-later x xs y there = Contains-append_right (x ∷ []) xs y there
+
+-- where none of a range is found, each fails the test
+pub find-range_with_len_none : (p : ℕ → Bool) (a n : ℕ) → find p (range_with_len a n) ≡ None → (m : ℕ) → a ≤ m
+    → m < a + n → p m ≡ false
+find-range_with_len_none p a zero e m above below = absurd (omega arith)
+find-range_with_len_none p a (suc n) e m above below = elim (cases_Bool (p a)) [
+  | inl here ↦ let found : Some a ≡ None = rw here at e in absurd (none-some a (sym found))
+  | inr passed ↦ elim (cases_lt a m) [
+    | inl later ↦
+        let rest : find p (range_with_len (a + 1) n) ≡ None = rw passed at e in
+        find-range_with_len_none p (a + 1) n rest m (omega arith) (omega arith)
+    | inr first ↦ let same : m ≡ a = omega arith in rw same passed
+  ]
+]
 
 -- Numbers and zeros
 

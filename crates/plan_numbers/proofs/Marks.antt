@@ -8,6 +8,7 @@ use Rattle.std.proofs.Common.{get_or, length, refl, sym, ap, ap₂, ◌∙◌, a
 use Rattle.std.specs.List.{fold, list_any}
 use Rattle.std.proofs.lemmas.Bool.{le-leb}
 use Rattle.std.proofs.lemmas.List.{take_more}
+use Rattle.std.proofs.Math.Bool.{or-false}
 use Rattle.channel_class.specs.Classes.{class_of, has_repeat, never_falls}
 use Rattle.channel_class.specs.declared.ChannelClass.{ChannelClass}
 use Rattle.channel_class.specs.declared.UseOrder.{UseOrder}
@@ -37,12 +38,8 @@ pub falls_more : (uses : List ℕ) (i : ℕ) → i < length uses
     → never_falls (take (i + 1) uses) ≡ (never_falls (take i uses) && leb (last_of (take i uses)) (get_or uses i 0))
 falls_more uses i lt = ap never_falls (take_more uses i 0 lt) ∙ falls_push (take i uses) (get_or uses i 0)
 
-or_none : (b : Bool) → (b || false) ≡ b
-or_none true = refl
-or_none false = refl
-
 any_push : (p : ℕ → Bool) (xs : List ℕ) (x : ℕ) → list_any p (xs ++ x ∷ []) ≡ (list_any p xs || p x)
-any_push p [] x = or_none (p x)
+any_push p [] x = or-false (p x)
 any_push p (a ∷ xs) x = ap (λ later. p a || later) (any_push p xs x) ∙ or_grouped (p a) (list_any p xs) (p x)
   where
     or_grouped : (a b c : Bool) → (a || (b || c)) ≡ ((a || b) || c)

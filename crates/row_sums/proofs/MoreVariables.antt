@@ -26,9 +26,10 @@ mapped_part : (more : ℕ) (part : Part) (row : Option Form) → option_map_or (
 mapped_part more part None = refl
 mapped_part more part (Some row) = widened_part more row part
 
-row_same : (more : ℕ) (rows : List Form) (part : Part) (k : ℕ) → row_part (map (widened_form more) rows) part k
-    ≡ row_part rows part k
-row_same more rows part k = ap (λ o. option_map_or (part_of part) o (pos 0)) (slice_get-map (widened_form more) rows k)
+pub row_part-widened : (more : ℕ) (rows : List Form) (part : Part) (k : ℕ)
+    → row_part (map (widened_form more) rows) part k ≡ row_part rows part k
+row_part-widened more rows part k =
+    ap (λ o. option_map_or (part_of part) o (pos 0)) (slice_get-map (widened_form more) rows k)
     ∙ mapped_part more part (slice_get rows k)
 
 weighted_same : (more : ℕ) (rows : List Form) (part : Part) (ts : List Term)
@@ -36,7 +37,7 @@ weighted_same : (more : ℕ) (rows : List Form) (part : Part) (ts : List Term)
 weighted_same more rows part [] = refl
 weighted_same more rows part (t ∷ ts) =
     ap (λ z. (z *ℤ t.times) +ℤ weighted_sum (row_part (map (widened_form more) rows) part) ts)
-    (row_same more rows part t.row)
+    (row_part-widened more rows part t.row)
     ∙ ap (λ z. (row_part rows part t.row *ℤ t.times) +ℤ z) (weighted_same more rows part ts)
 
 none_there : (vars : ℕ) (rows : List Form) (i k : ℕ) → AreOver vars rows → vars ≤ i

@@ -4,13 +4,13 @@
 -- multiplied it is the sum or the multiple, by induction over the terms. So what is shown combines. To carry terms,
 -- each is replaced by a multiple of what shows its row, and all of these add up to what the terms show. No multiplier
 -- is negative, so rows are never subtracted.
-use Rattle.std.proofs.Common.{◌≡◌, ◌<◌, ℕ, zero, suc, ℤ, pos, ◌+ℤ◌, ◌*ℤ◌, ◌≤ℤ◌, ◌-ℤ◌, List, [], ◌∷◌, ◌++◌, length, refl}
+use Rattle.std.proofs.Common.{◌≡◌, ◌<◌, ℕ, zero, suc, ℤ, pos, ◌+ℤ◌, ◌*ℤ◌, ◌≤ℤ◌, List, [], ◌∷◌, ◌++◌, length, refl}
 use Rattle.std.proofs.Common.{ap, ◌∙◌, arith}
 use Rattle.std.specs.Prelude.{All}
 use Rattle.std.specs.Option.{option_map_or}
 use Rattle.std.proofs.lemmas.Int.{ints}
 use Rattle.std.proofs.lemmas.List.Elements.{All-nil, All-cons, All-head, All-tail, All-append, All-map, All-weaker}
-use Rattle.affine_core.proofs.Ring.{times_not_negative, sum_times, times_assoc}
+use Rattle.affine_core.proofs.Ring.{times_not_negative, sum_times, times_assoc, times_at_most}
 use Rattle.affine_core.specs.declared.form.Form.{Form}
 use Rattle.int_polyhedra.specs.declared.system.Term.{Term}
 use Rattle.plain_data.proofs.Lists.{slice_get-append_left}
@@ -95,14 +95,6 @@ module _ (vars : ℕ) (rows : List Form) where
         (arith, ints, weighted_sum_append (row_part rows (the_coefficient i)) ts us, s.same i l, r.same i l);
   }
 
-  at_most_multiple : (by z a : ℤ) → pos 0 ≤ℤ by → z ≤ℤ a → (z *ℤ by) ≤ℤ (a *ℤ by)
-  at_most_multiple by z a h l =
-      let lost : pos 0 ≤ℤ ((a -ℤ z) *ℤ by) = times_not_negative (a -ℤ z) by (omega (arith, ints, l)) h in
-      let same : (z +ℤ (a -ℤ z)) *ℤ by ≡ (z *ℤ by) +ℤ ((a -ℤ z) *ℤ by) = sum_times z (a -ℤ z) by in
-      let whole : z +ℤ (a -ℤ z) ≡ a = omega (arith, ints) in
-      let e : (z +ℤ (a -ℤ z)) *ℤ by ≡ a *ℤ by = ap (λ x. x *ℤ by) whole in
-      omega (arith, ints, lost, same, e)
-
   pub multiple : (by : ℤ) (ts : List Term) (a : RowParts) → pos 0 ≤ℤ by → Shows vars rows ts a
       → Shows vars rows (term_products by ts) (λ part. a part *ℤ by)
   multiple by ts a h s = record {
@@ -116,7 +108,7 @@ module _ (vars : ℕ) (rows : List Form) where
       arith,
       ints,
       weighted_sum_products (row_part rows the_constant) by ts,
-      at_most_multiple by (weighted_sum (row_part rows the_constant) ts) (a the_constant) h s.at_most,
+      times_at_most (weighted_sum (row_part rows the_constant) ts) (a the_constant) by s.at_most h,
     );
     same = λ i l. weighted_sum_products (row_part rows (the_coefficient i)) by ts ∙ ap (λ z. z *ℤ by) (s.same i l);
   }

@@ -79,9 +79,6 @@ pub record LoopFits (lower upper : List Form) (step : ℤ) (body : List Node) (d
   pub bounds : AreBounds lower upper step depth
   pub body_fits : Each (FitsIn (depth + 1)) body
 
-second_of : (a b : Bool) → (a || b) ≡ true → a ≡ false → b ≡ true
-second_of a b h e = sym (ap (λ c. c || b) e) ∙ h
-
 pub loop_fits : (id : ℕ) (lower upper : List Form) (step : ℤ) (body : List Node) (depth : ℕ)
     → FitsIn depth (Loop id lower upper step body) → LoopFits lower upper step body depth
 loop_fits id lower upper step body depth h =
@@ -102,7 +99,7 @@ loop_fits id lower upper step body depth h =
         lower_over = over_from_fits depth lower c.1;
         upper_over = over_from_fits depth upper b.1;
         step_counts = int_le-true (pos 1) step i.0;
-        one_lower = λ more. eqb-true (length lower) 1 (second_of (int_eq step (pos 1)) (length lower == 1) h.1 more);
+        one_lower = λ more. eqb-true (length lower) 1 (sym (ap (λ c. c || (length lower == 1)) more) ∙ h.1);
       };
       body_fits = each_fits (depth + 1) body a.1;
     }

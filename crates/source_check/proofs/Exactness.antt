@@ -13,6 +13,7 @@ use Rattle.std.proofs.lemmas.Int.{ints}
 use Rattle.std.proofs.lemmas.List.{append-nil}
 use Rattle.std.proofs.lemmas.List.Elements.{All-head, All-tail}
 use Rattle.std.proofs.lemmas.Option.{same_Some}
+use Rattle.std.proofs.lemmas.Bool.{eqb-false}
 use Rattle.affine_core.specs.declared.form.Form.{Form}
 use Rattle.affine_core.specs.Affine.{form_at}
 use Rattle.affine_core.proofs.Integers.{int_le-true, int_le-false}
@@ -42,9 +43,6 @@ use Rattle.source_check.proofs.Quotients.{divided_within, divided_met, undivided
 use Rattle.source_check.proofs.Readers.{IsReader, IsTrace, IsPointAt, read_parts, is_reader, is_trace, named_parts}
 use Rattle.source_check.proofs.Values.{AreWithin, AreShort, met_more, within_append}
 use Rattle.source_check.proofs.Values.{all_within_wider, taken_met, taken_within}
-
-not_equal_where : (m n : ℕ) → (m == n) ≡ false → m ≡ n → ⊥
-not_equal_where m n e f = grind arith
 
 have_short : (vars m : ℕ) (forms : List Form) → vars ≡ m → HaveVariables vars forms → AreShort m forms
 have_short vars m [] e h = tt
@@ -122,7 +120,7 @@ module _ (n : Nest) (points : List Point) (follows : IsTrace n points) (r : Occu
             → IsLast (gives below (v ++ quotient form d v ∷ [])))
             → IsLast (cond p (gives above (v ++ quotient form d v ∷ [])) (gives below (v ++ quotient form d v ∷ [])))
         go true e first second = first (eqb-true (unsigned_abs (form_at form v) % unsigned_abs d) 0 e)
-        go false e first second = second (not_equal_where (unsigned_abs (form_at form v) % unsigned_abs d) 0 e)
+        go false e first second = second (eqb-false (unsigned_abs (form_at form v) % unsigned_abs d) 0 e)
   checked_is_last _ _ (at_writer c tree s place proofs w is named_is may deep have refuted) v h =
       subst IsLast (sym (gives-Writer v tree s place proofs is))
       (named_parts n r s w named_is

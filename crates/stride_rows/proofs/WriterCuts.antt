@@ -10,7 +10,7 @@ use Rattle.std.specs.Prelude.{All, unsigned_abs}
 use Rattle.std.proofs.lemmas.Int.{ints}
 use Rattle.std.proofs.Math.IntN.{+ℤ_comm}
 use Rattle.std.proofs.lemmas.List.Elements.{All-nil, All-cons, All-head, All-tail}
-use Rattle.affine_core.proofs.Ring.{sum_times, times_assoc, times_swap}
+use Rattle.affine_core.proofs.Ring.{sum_times, times_assoc, times_swap, difference_times}
 use Rattle.affine_core.specs.declared.form.Form.{Form}
 use Rattle.int_polyhedra.specs.declared.system.Term.{Term}
 use Rattle.int_polyhedra.specs.Steps.{floor, quotient_row}
@@ -198,12 +198,6 @@ module _ (rows : List Form) (d at up down : ℕ) (f q v : RowParts) (h : AreDivi
     (less : ℤ) (less_is : floor less d ≡ less)
     (above : (part : Part) → row_part rows part up ≡ ((v part *ℤ pos d) -ℤ f part) +ℤ number_part less part)
     (below : (part : Part) → row_part rows part down ≡ (f part -ℤ (v part *ℤ pos d)) +ℤ number_part less part) where
-  difference_times : (x y : ℤ) → (x -ℤ y) *ℤ pos d ≡ (x *ℤ pos d) -ℤ (y *ℤ pos d)
-  difference_times x y =
-      let whole : ((x -ℤ y) +ℤ y) *ℤ pos d ≡ ((x -ℤ y) *ℤ pos d) +ℤ (y *ℤ pos d) = sum_times (x -ℤ y) y (pos d) in
-      let same : (x -ℤ y) +ℤ y ≡ x = omega (arith, ints) in
-      omega (arith, ints, whole, ap (λ z. z *ℤ pos d) same)
-
   -- v - q, less the number
   pub above_multiple : IsMultipleOf rows d (once_row up ∷ once_row at ∷ [])
       (λ part. (v part -ℤ q part) +ℤ number_part less part)
@@ -216,7 +210,7 @@ module _ (rows : List Form) (d at up down : ℕ) (f q v : RowParts) (h : AreDivi
         weighted_sum-once_rows (row_part rows part) up at,
         above part,
         h.low part,
-        difference_times (v part) (q part),
+        difference_times (v part) (q part) (pos d),
       ) in
       record {
         name_rows = All-once_rows (length rows) up at h.up_in (omega (arith, h.at_in));
@@ -244,7 +238,7 @@ module _ (rows : List Form) (d at up down : ℕ) (f q v : RowParts) (h : AreDivi
         weighted_sum-once_rows (row_part rows part) down (at + 1),
         below part,
         h.high part,
-        difference_times (q part) (v part),
+        difference_times (q part) (v part) (pos d),
       ) in
       record {
         name_rows = All-once_rows (length rows) down (at + 1) h.down_in h.at_in;

@@ -4,12 +4,12 @@
 -- subscript's test: `M v - form - 1` and `form - M q` add up to `v - q - 1`, M times. Without a stride it is the
 -- statement's own row. With a stride below 0 or the coefficient -1 it is the other one of the statement's two rows.
 use Rattle.std.proofs.Common.{◌≡◌, ◌+◌, ◌<◌, ℕ, ℤ, pos, negsuc, ◌+ℤ◌, ◌-ℤ◌, ◌*ℤ◌, List, [], ◌∷◌}
-use Rattle.std.proofs.Common.{length, Bool, true, false, cond, refl, sym, ap, subst, arith}
+use Rattle.std.proofs.Common.{length, Bool, true, false, cond, refl, sym, subst, arith}
 use Rattle.std.specs.Prelude.{Option, Some, None, unsigned_abs}
 use Rattle.std.specs.Option.{option_map_or}
 use Rattle.std.specs.Int.RustNames.{int_lt}
 use Rattle.std.proofs.lemmas.Int.{ints}
-use Rattle.affine_core.proofs.Ring.{sum_times}
+use Rattle.affine_core.proofs.Ring.{difference_times}
 use Rattle.affine_core.specs.declared.form.Form.{Form}
 use Rattle.affine_core.specs.Affine.{variable_form, widened_form}
 use Rattle.row_sums.specs.Made.{parts_of}
@@ -28,12 +28,6 @@ use Rattle.stride_trees.proofs.LastRows.{pair_comes, same_comes, ComesFrom}
 use Rattle.stride_trees.proofs.NoSystems.{stride_rows, AreStrideRows}
 use Rattle.stride_trees.proofs.Quotients.{loop_at, told_less, told_same, told_stride, IsToldLess, IsToldSame, IsToldStride}
 use Rattle.stride_rows.proofs.QuotientRows.{stride_positive}
-
-difference_times : (x y : ℤ) (d : ℕ) → (x -ℤ y) *ℤ pos d ≡ (x *ℤ pos d) -ℤ (y *ℤ pos d)
-difference_times x y d =
-    let whole : ((x -ℤ y) +ℤ y) *ℤ pos d ≡ ((x -ℤ y) *ℤ pos d) +ℤ (y *ℤ pos d) = sum_times (x -ℤ y) y (pos d) in
-    let same : (x -ℤ y) +ℤ y ≡ x = omega (arith, ints) in
-    omega (arith, ints, whole, ap (λ z. z *ℤ pos d) same)
 
 sign_other : (c : ℤ) → 0 < unsigned_abs c → int_lt (pos 0) c ≡ false → int_lt c (pos 0) ≡ true
 sign_other c some e = grind (arith, ints)
@@ -102,7 +96,7 @@ module _ (vars here : ℕ) (context : List Form) (write read : Form) (place : Li
         pair_comes vars here context c test own told_above (λ part. (v part *ℤ pos d) -ℤ f part)
         (λ part. f part +ℤ ((q part *ℤ pos d) *ℤ negsuc 0)) (λ part. v part -ℤ q part) count positive
         (omega (arith, t.inside)) own_is t.low
-        (λ part. omega (arith, ints, difference_times (v part) (q part) d))
+        (λ part. omega (arith, ints, difference_times (v part) (q part) (pos d)))
         (λ part. omega (arith, ints, told.write_at part, told.read_at part))
 
     -- and `form - M v - 1` to `q - v - 1`
@@ -113,7 +107,7 @@ module _ (vars here : ℕ) (context : List Form) (write read : Form) (place : Li
         pair_comes vars here context c (test + 1) own told_below (λ part. f part -ℤ (v part *ℤ pos d))
         (λ part. (q part *ℤ pos d) +ℤ (f part *ℤ negsuc 0)) (λ part. q part -ℤ v part) count positive t.inside own_is
         t.high
-        (λ part. omega (arith, ints, difference_times (q part) (v part) d))
+        (λ part. omega (arith, ints, difference_times (q part) (v part) (pos d)))
         (λ part. omega (arith, ints, told.write_at part, told.read_at part))
 
     abbrev Cuts : Bool → Type 0

@@ -19,6 +19,7 @@ use Rattle.row_sums.specs.Made.{parts_of}
 use Rattle.row_sums.specs.Parts.{Part, part_of, row_part}
 use Rattle.row_sums.specs.Shown.{RowParts}
 use Rattle.row_sums.proofs.Within.{part_of-le}
+use Rattle.row_sums.proofs.MoreVariables.{row_part-widened}
 use Rattle.sanlp.specs.declared.nest.Nest.{Nest}
 use Rattle.source_tree.specs.Checked.{IsRefuted}
 use Rattle.source_tree.specs.Rows.{RowExpr, Take, Plus, minus, number, one_less}
@@ -30,7 +31,6 @@ use Rattle.stride_rows.specs.Sources.{loop_of}
 use Rattle.stride_trees.specs.Strides.{depth_of_read, depth_of_write, read_of, root_of, write_of, AreStrided, IsSmallContext, IsStrided, IsTestOf}
 use Rattle.stride_trees.specs.declared.divisions.Division.{Division}
 use Rattle.stride_trees.specs.declared.strides.Strides.{Strides}
-use Rattle.stride_trees.proofs.SystemConversion.{widened_at}
 use Rattle.stride_rows.proofs.Indivisible.{indivisible_proof, number_part, undivided_proof, undivided_refutes, AreUndivided}
 use Rattle.stride_trees.proofs.Lists.{forms_count, row_made}
 use Rattle.stride_trees.proofs.WriteSystems as standing
@@ -101,7 +101,7 @@ module _ (n : Nest) (r w : Occurrence) (p : ℕ) (c : Context) (here i : ℕ) (w
         standing.wide_count n r w p c here strided small reader
             order order_made,
       )))
-      ∙ widened_at more small.rows k part ∙ row_made c.vars c.rows small.rows k row part small.made row_is
+      ∙ row_part-widened more small.rows part k ∙ row_made c.vars c.rows small.rows k row part small.made row_is
 
   -- the rows of its subscript
 

@@ -3,7 +3,7 @@
 -- The statement's system has small rows, so it can be made. Both systems begin with the context's rows and end with the
 -- same order rows; between them each row over quotients is told by the statement's rows. So a Sum that refutes the one
 -- refutes the other as Cuts and a Sum.
-use Rattle.std.proofs.Common.{◌≡◌, ◌+◌, ◌*◌, ◌^◌, ◌≤◌, ◌<◌, ℕ, zero, suc, pos, negsuc, ◌+ℤ◌, ◌*ℤ◌, List, [], ◌∷◌, ◌++◌, length, map, true}
+use Rattle.std.proofs.Common.{◌≡◌, ◌+◌, ◌*◌, ◌^◌, ◌≤◌, ◌<◌, ℕ, suc, pos, negsuc, ◌+ℤ◌, ◌*ℤ◌, List, [], ◌∷◌, ◌++◌, length, map, true}
 use Rattle.std.proofs.Common.{refl, sym, ap, ◌∙◌, subst, arith, length-append}
 use Rattle.std.specs.Prelude.{Some, All, unsigned_abs}
 use Rattle.std.specs.List.{list_all}
@@ -23,6 +23,7 @@ use Rattle.difference_graphs.proofs.RowBounds.{AreMade}
 use Rattle.plain_data.proofs.Lists.{slice_get-append_left}
 use Rattle.row_sums.specs.Parts.{Part, part_of, row_part, weight, IsWithin}
 use Rattle.row_sums.proofs.SmallRows.{widened_part}
+use Rattle.row_sums.proofs.MoreVariables.{row_part-widened}
 use Rattle.sanlp.specs.declared.nest.Nest.{Nest}
 use Rattle.sanlp.specs.WellFormed.{form_fits}
 use Rattle.source_tree.specs.Checked.{IsRefuted}
@@ -65,18 +66,12 @@ test_row_behind vars rows more test quotient form m h =
       high = λ part. at (test + 1) part h.inside ∙ h.high part;
     }
 
-pub widened_at : (more : ℕ) (rows : List Form) (n : ℕ) (part : Part)
-    → row_part (map (widened_form more) rows) part n ≡ row_part rows part n
-widened_at more [] n part = refl
-widened_at more (row ∷ rows) zero part = widened_part more row part
-widened_at more (row ∷ rows) (suc n) part = widened_at more rows n part
-
 test_row_widened : (vars more : ℕ) (rows : List Form) (test quotient : ℕ) (form : Form) (m : ℕ)
     → IsTestRow vars rows test quotient form m → IsTestRow vars (map (widened_form more) rows) test quotient form m
 test_row_widened vars more rows test quotient form m h = record {
   inside = omega (arith, h.inside, length-map rows (widened_form more));
-  low = λ part. widened_at more rows test part ∙ h.low part;
-  high = λ part. widened_at more rows (test + 1) part ∙ h.high part;
+  low = λ part. row_part-widened more rows part test ∙ h.low part;
+  high = λ part. row_part-widened more rows part (test + 1) ∙ h.high part;
 }
 
 pub test_rows_in : (vars more : ℕ) (rows behind : List Form) (depth root : ℕ) (places : List ℕ) (writes reads : List Form)

@@ -6,27 +6,23 @@
 -- they are when it is taken (`space_less`). As the declared arrays are passed, the lists gathered so
 -- far and those to come are together always the same: an output adds what its sink has kept, any other
 -- array an empty list (`lists_out`, `lists_other`). What the sinks keep doesn't matter here.
-use Rattle.std.proofs.Common.{◌≡◌, ◌<◌, ◌≤◌, ◌+◌, ◌-◌, ⊎_elim, ℕ, ℤ, true, false, cond, List, [], ◌∷◌, ◌++◌}
-use Rattle.std.proofs.Common.{length, map, replicate, drop, slice_get, get_or, Some, vec_capacity, sym, ap, ◌∙◌, subst}
-use Rattle.std.proofs.Common.{arith, length-append, append_assoc}
+use Rattle.std.proofs.Common.{◌≡◌, ◌<◌, ◌≤◌, ◌+◌, ◌-◌, ⊎_elim, ℕ, ℤ, List, [], ◌∷◌, ◌++◌}
+use Rattle.std.proofs.Common.{length, map, replicate, slice_get, get_or, Some, vec_capacity, sym, ap, ◌∙◌, subst}
+use Rattle.std.proofs.Common.{arith, length-append}
 use Rattle.std.specs.declared.vec.Vec.{Vec}
 use Rattle.std.specs.Global.{Global}
 use Rattle.std.proofs.lemmas.List.{length-map}
-use Rattle.sanlp.specs.declared.nest.ArrayDecl.{ArrayDecl}
 use Rattle.sanlp.specs.declared.nest.Nest.{Nest}
-use Rattle.sanlp.specs.Cells.{is_output}
 use Rattle.sanlp.specs.declared.nest.Role.TheVariants as role
 use Rattle.sanlp.specs.declared.nest.Statement.{Statement}
-use Rattle.sanlp.specs.WellFormed.{numbers_from, input_numbers, output_numbers}
+use Rattle.sanlp.specs.WellFormed.{input_numbers, output_numbers}
 use Rattle.net_core.specs.declared.network.Network.{Network}
 use Rattle.net_core.specs.Machine.{net_of}
 use Rattle.net_core.specs.Shape.{turns}
-use Rattle.net_core.specs.Sound.{sink_lists_from}
 use Rattle.std.proofs.lemmas.Option.{get_or_from_slice_get}
 use Rattle.net_core.specs.Rooms.{Store, fresh_store}
-use Rattle.plain_data.proofs.Lists.{slice_get-append_some, slice_get_read_same}
+use Rattle.plain_data.proofs.Lists.{slice_get-append_some, slice_get_read_same, slice_get_push-cases}
 use Rattle.thread_runner.specs.Benches.{AreFreshRooms, HaveSpace}
-use Rattle.thread_runner.proofs.Rooms.{get_snoc}
 
 pub fresh_more : (network : Network) (k : ℕ) (rooms rooms' : List (Store ℤ)) (room : Store ℤ)
     → AreFreshRooms network k rooms → rooms' ≡ rooms ++ room ∷ [] → room ≡ fresh_store (net_of network) k
@@ -37,7 +33,7 @@ fresh_more network k rooms rooms' room fresh grown is =
       each = λ p r h. ⊎_elim (λ (a : slice_get rooms p ≡ Some r). fresh.each p r a)
           (λ (b : (p ≡ length rooms) × (room ≡ r)). sym b.1 ∙ is
           ∙ ap (fresh_store (net_of network)) (sym (b.0 ∙ fresh.number)))
-          (get_snoc rooms room r p h);
+          (slice_get_push-cases rooms room p r h);
     } in
     subst (AreFreshRooms network (k + 1)) (sym grown) more
 
@@ -71,7 +67,7 @@ space_more values past k p lists lists' list before grown many is empty space =
           subst (λ (v : Vec ℤ Global). values q ≤ vec_capacity v) b.1
           (subst (λ n. values n ≤ vec_capacity list) (sym same) space),
     ))
-    (get_snoc lists list x i h))
+    (slice_get_push-cases lists list i x h))
 
 pub space_less : (values : ℕ → ℕ) (past : ℕ) (lists lists' : List (Vec ℤ Global)) (list : Vec ℤ Global)
     → HaveSpace values past lists → lists ≡ lists' ++ list ∷ [] → HaveSpace values past lists'
@@ -85,44 +81,3 @@ turns_read points items p list count space same lt is counted reserved =
     let found : slice_get points p ≡ Some list = slice_get_read_same points items p list same lt is in
     let turns_are : turns points p ≡ length list = ap length (get_or_from_slice_get points p list [] found) in
     omega arith
-
-pub numbers_out : (declared : List ArrayDecl) (i : ℕ) (array : ArrayDecl)
-    → drop i declared ≡ array ∷ drop (i + 1) declared → is_output array.kind ≡ true
-    → length (numbers_from (λ (a : ArrayDecl). is_output a.kind) i (drop i declared))
-    ≡ length (numbers_from (λ (a : ArrayDecl). is_output a.kind) (i + 1) (drop (i + 1) declared)) + 1
-numbers_out declared i array here out =
-    let q = λ (a : ArrayDecl). is_output a.kind in
-    let rest = numbers_from q (i + 1) (drop (i + 1) declared) in
-    ap (λ l. length (numbers_from q i l)) here ∙ ap (λ b. length (cond b (i ∷ rest) rest)) out ∙ omega arith
-
-pub numbers_other : (declared : List ArrayDecl) (i : ℕ) (array : ArrayDecl)
-    → drop i declared ≡ array ∷ drop (i + 1) declared → is_output array.kind ≡ false
-    → length (numbers_from (λ (a : ArrayDecl). is_output a.kind) i (drop i declared))
-    ≡ length (numbers_from (λ (a : ArrayDecl). is_output a.kind) (i + 1) (drop (i + 1) declared))
-numbers_other declared i array here other =
-    let q = λ (a : ArrayDecl). is_output a.kind in
-    let rest = numbers_from q (i + 1) (drop (i + 1) declared) in
-    ap (λ l. length (numbers_from q i l)) here ∙ ap (λ b. length (cond b (i ∷ rest) rest)) other
-
-pub lists_out : (f : ℕ → List ℤ) (s i : ℕ) (declared : List ArrayDecl) (array : ArrayDecl)
-    (arrays arrays' : List (List ℤ)) → drop i declared ≡ array ∷ drop (i + 1) declared → is_output array.kind ≡ true
-    → arrays' ≡ arrays ++ f s ∷ []
-    → arrays' ++ sink_lists_from f (s + 1) (drop (i + 1) declared) ≡ arrays ++ sink_lists_from f s (drop i declared)
-lists_out f s i declared array arrays arrays' here out grown =
-    let rest = drop (i + 1) declared in
-    ap (λ l. l ++ sink_lists_from f (s + 1) rest) grown
-    ∙ append_assoc arrays (f s ∷ []) (sink_lists_from f (s + 1) rest)
-    ∙ ap (λ l. arrays ++ l)
-    (sym (ap (sink_lists_from f s) here
-    ∙ ap (λ b. cond b (f s ∷ sink_lists_from f (s + 1) rest) ([] ∷ sink_lists_from f s rest)) out))
-
-pub lists_other : (f : ℕ → List ℤ) (s i : ℕ) (declared : List ArrayDecl) (array : ArrayDecl)
-    (arrays arrays' : List (List ℤ)) → drop i declared ≡ array ∷ drop (i + 1) declared → is_output array.kind ≡ false
-    → arrays' ≡ arrays ++ [] ∷ []
-    → arrays' ++ sink_lists_from f s (drop (i + 1) declared) ≡ arrays ++ sink_lists_from f s (drop i declared)
-lists_other f s i declared array arrays arrays' here other grown =
-    let rest = drop (i + 1) declared in
-    ap (λ l. l ++ sink_lists_from f s rest) grown ∙ append_assoc arrays ([] ∷ []) (sink_lists_from f s rest)
-    ∙ ap (λ l. arrays ++ l)
-    (sym (ap (sink_lists_from f s) here
-    ∙ ap (λ b. cond b (f s ∷ sink_lists_from f (s + 1) rest) ([] ∷ sink_lists_from f s rest)) other))

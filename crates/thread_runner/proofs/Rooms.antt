@@ -1,22 +1,14 @@
 -- The last room and the last ends leave their lists and come back.
-use Rattle.std.proofs.Common.{◌≡◌, ◌⊎◌, inl, inr, ⊎_elim, ℕ, zero, suc, ℤ, List, [], ◌∷◌, ◌++◌, length, Some, slice_get}
-use Rattle.std.proofs.Common.{refl, sym, ap, ◌∙◌, arith, length-append}
+use Rattle.std.proofs.Common.{◌≡◌, ⊎_elim, ℕ, ℤ, List, [], ◌∷◌, ◌++◌, length, Some, slice_get}
+use Rattle.std.proofs.Common.{sym, ap, ◌∙◌, arith, length-append}
 use Rattle.sanlp.specs.declared.nest.Inputs.{Inputs}
 use Rattle.sanlp.specs.declared.nest.Nest.{Nest}
 use Rattle.sanlp.specs.Laws.{values_of}
 use Rattle.net_core.specs.declared.network.Network.{Network}
 use Rattle.net_core.specs.Rooms.{Store}
 use Rattle.node_runner.specs.Nodes.{Ports}
-use Rattle.plain_data.proofs.Lists.{slice_get_push, slice_get-append_some}
+use Rattle.plain_data.proofs.Lists.{slice_get_push, slice_get-append_some, slice_get_push-cases}
 use Rattle.thread_runner.specs.Runs.{MayWork, MayStart, HaveKept}
-
-pub get_snoc : {X : Type 0} (xs : List X) (x y : X) (p : ℕ) → slice_get (xs ++ x ∷ []) p ≡ Some y
-    → (slice_get xs p ≡ Some y) ⊎ ((p ≡ length xs) × (x ≡ y))
-get_snoc [] x y zero e = inr (refl, cc)
-get_snoc [] x y (suc p) e = absurd (cc)
-get_snoc (z ∷ xs) x y zero e = inl e
-get_snoc {X} (z ∷ xs) x y (suc p) e =
-    ⊎_elim (λ a. inl a) (λ (b : (p ≡ length xs) × (x ≡ y)). inr (ap suc b.0, b.1)) (get_snoc xs x y p e)
 
 module _ {E : Type 0} (from to : E → Ports) (nest : Nest) (points : List (List (List ℤ))) (d : Inputs)
     (network : Network) (rooms : List (Store ℤ)) (ends : List E) (room : Store ℤ) (mine : E) where
@@ -53,4 +45,4 @@ all_kept nest d rooms room below mine p r e =
     ⊎_elim (λ (a : slice_get rooms p ≡ Some r). below p r a)
     (λ (b : (p ≡ length rooms) × (room ≡ r)). ap (λ (s : Store ℤ). s.kept) (sym b.1) ∙ mine
     ∙ ap (values_of nest d) (sym b.0))
-    (get_snoc rooms room r p e)
+    (slice_get_push-cases rooms room p r e)

@@ -6,10 +6,10 @@
 -- stand behind, so what they add is the same row at the same end, and the rows before the one that is away never change:
 -- that is why its number is the same in all steps of a proof.
 use Rattle.std.proofs.Common.{◌≡◌, ◌==◌, ◌+◌, ◌-◌, ◌≤◌, ◌<◌, ℕ, zero, suc, ◌⊎◌, inl, inr, ℤ, pos, ◌≤ℤ◌, List, []}
-use Rattle.std.proofs.Common.{◌∷◌, ◌++◌, length, map, Bool, true, false, refl, sym, ap, ◌∙◌, subst, arith}
+use Rattle.std.proofs.Common.{◌∷◌, ◌++◌, length, map, Bool, false, refl, sym, ap, ◌∙◌, subst, arith}
 use Rattle.std.specs.Prelude.{Option, All, slice_get, unsigned_abs}
 use Rattle.std.specs.Option.{option_and_then}
-use Rattle.std.proofs.lemmas.Bool.{cases_order, eq-eqb, or_parts}
+use Rattle.std.proofs.lemmas.Bool.{cases_order, or_parts, eqb-false}
 use Rattle.std.proofs.lemmas.List.{append_assoc, length-append}
 use Rattle.std.proofs.lemmas.List.Elements.{All-nil, All-cons, All-head, All-tail, All-map}
 use Rattle.affine_core.specs.declared.form.Form.{Form}
@@ -32,13 +32,10 @@ number_before k i lt = grind arith
 number_behind : (k j : ℕ) → number_without k (k + suc j) ≡ k + j
 number_behind k j = grind arith
 
-itself_named : (k i : ℕ) → i ≡ k → (i == k) ≡ false → ⊥
-itself_named k i same differs = let f : true ≡ false = sym (eq-eqb i k same) ∙ differs in cc
-
 -- another row stands before or behind
 other_row : (k i : ℕ) → (i == k) ≡ false → (i < k) ⊎ ((j : ℕ) × (i ≡ k + suc j))
 other_row k i differs = elim (cases_order i k) [
-  | inl same ↦ absurd (itself_named k i same differs)
+  | inl same ↦ absurd (eqb-false i k differs same)
   | inr other ↦ elim other [
     | inl below ↦ inl below
     | inr above ↦ inr (i - (k + 1), omega (arith, above))

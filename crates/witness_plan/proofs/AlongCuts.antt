@@ -1,7 +1,8 @@
 -- Cuts along a schedule that grows at its end.
 use Rattle.std.proofs.Common.{◌≡◌, ℕ, zero, suc, ◌+◌, ◌≤◌, List, [], ◌∷◌, ◌++◌, replicate, refl, ◌∙◌, inl, inr, arith}
+use Rattle.std.proofs.Common.{ap}
 use Rattle.std.proofs.lemmas.Bool.{cases_eq}
-use Rattle.net_core.specs.Cuts.{Cut, IsCutRun, advanced, cut_after}
+use Rattle.net_core.specs.Cuts.{Cut, IsCutRun, advanced, cut_after, opening}
 use Rattle.net_core.specs.Machine.{Net}
 use Rattle.net_core.proofs.CutOrder.{advanced_here, advanced_there}
 
@@ -23,6 +24,11 @@ IsCutRun-append n (p ∷ run) more k first later =
 pub cut_after-append : (k : Cut) (run more : List ℕ) → cut_after k (run ++ more) ≡ cut_after (cut_after k run) more
 cut_after-append k [] more = refl
 cut_after-append k (p ∷ run) more = cut_after-append (advanced k p) run more
+
+-- one event more
+pub cut_after-push : (run more : List ℕ) (p : ℕ) → more ≡ run ++ p ∷ []
+    → cut_after opening more ≡ advanced (cut_after opening run) p
+cut_after-push run more p grown = ap (cut_after opening) grown ∙ cut_after-append opening run (p ∷ [])
 
 -- many events of one process
 pub cut_here : (k : Cut) (m p : ℕ) → cut_after k (replicate m p) p ≡ k p + m

@@ -8,13 +8,13 @@
 use Rattle.std.proofs.Common.{◌≡◌, ℕ, suc, ◌<◌, ◌≤◌, false, Some, None, List, [], ◌∷◌, ◌++◌, length, sym, ap, ◌∙◌}
 use Rattle.std.proofs.Common.{subst, arith, append_assoc, append-nil}
 use Rattle.net_core.specs.declared.network.Event.{Event}
-use Rattle.net_core.specs.Cuts.{advanced, cut_after, opening}
+use Rattle.net_core.specs.Cuts.{cut_after, opening}
 use Rattle.net_core.specs.Machine.{Net}
 use Rattle.net_core.specs.Shape.{IsWired}
 use Rattle.std.specs.Prelude.{slice_get}
 use Rattle.witness_plan.specs.Records.{bound_after}
 use Rattle.witness_plan.specs.Schedules.{downward_from, downward_schedule, highest_ready, is_ready}
-use Rattle.witness_plan.proofs.AlongCuts.{cut_after-append}
+use Rattle.witness_plan.proofs.AlongCuts.{cut_after-push}
 use Rattle.witness_plan.proofs.Downward.{events_left, from_none, from_some, highest_above, highest_from, highest_is}
 use Rattle.witness_plan.proofs.Downward.{left_first, left_less, past_bound, quiet_after, ready_inside}
 
@@ -55,14 +55,11 @@ module _ (n : Net) (made : List ℕ) (below p : ℕ) (descent : IsDescent n made
 
   -- one event more
   module _ (more : List ℕ) (grown : more ≡ made ++ p ∷ []) where
-    next : cut_after opening more ≡ advanced (cut_after opening made) p
-    next = ap (cut_after opening) grown ∙ cut_after-append opening made (p ∷ [])
-
     pub fewer_left : events_left n (cut_after opening made) n.processes
         ≡ suc (events_left n (cut_after opening more) n.processes)
     fewer_left =
         left_less n (cut_after opening made) p n.processes found_there found_inside
-        ∙ ap (λ k. suc (events_left n k n.processes)) (sym next)
+        ∙ ap (λ k. suc (events_left n k n.processes)) (sym (cut_after-push made more p grown))
 
     pub descent_more : (wired : IsWired n) (e : Event) (bound : ℕ)
         → slice_get (n.script p) (cut_after opening made p) ≡ Some e → bound ≡ bound_after n p e → bound ≤ n.processes
@@ -73,7 +70,8 @@ module _ (n : Net) (made : List ℕ) (below p : ℕ) (descent : IsDescent n made
               s ++ downward_from n (events_left n (cut_after opening more) n.processes) (cut_after opening more)) grown
               ∙ append_assoc made (p ∷ [])
               (downward_from n (events_left n (cut_after opening more) n.processes) (cut_after opening more))
-              ∙ ap (λ c. made ++ p ∷ downward_from n (events_left n (cut_after opening more) n.processes) c) next
+              ∙ ap (λ c. made ++ p ∷ downward_from n (events_left n (cut_after opening more) n.processes) c)
+              (cut_after-push made more p grown)
               ∙ ap (λ s. made ++ s)
               (sym (from_some n (events_left n (cut_after opening more) n.processes)
               (cut_after opening made) p at_top))
@@ -82,7 +80,7 @@ module _ (n : Net) (made : List ℕ) (below p : ℕ) (descent : IsDescent n made
           within = within;
           quiet = λ q past lt.
               (let past' : bound_after n p e ≤ q = omega (arith, value) in
-              subst (λ c. is_ready n c q ≡ false) (sym next)
+              subst (λ c. is_ready n c q ≡ false) (sym (cut_after-push made more p grown))
               (quiet_after n wired (cut_after opening made) p e is q past'
               (highest_above n (cut_after opening made) n.processes p q at_top
               (omega (arith, past_bound n p e)) lt)));

@@ -8,13 +8,13 @@ use Rattle.std.proofs.Common.{slice_get, refl, sym, ap, ◌∙◌, append_assoc}
 use Rattle.net_core.specs.declared.network.Event.{Event}
 use Rattle.net_core.specs.declared.network.Event.TheVariants.{Get, Fire, Put}
 use Rattle.net_core.specs.declared.refs.Ref.{Ref}
-use Rattle.net_core.specs.Cuts.{advanced, cut_after, opening}
+use Rattle.net_core.specs.Cuts.{cut_after, opening}
 use Rattle.net_core.specs.Machine.{Net}
 use Rattle.net_core.proofs.CutOrder.{advanced_here}
 use Rattle.plain_data.proofs.Lists.{drop-some}
 use Rattle.witness_plan.specs.Records.{left_after}
 use Rattle.witness_plan.specs.Steps.{point_length, put_length}
-use Rattle.witness_plan.proofs.AlongCuts.{cut_after-append}
+use Rattle.witness_plan.proofs.AlongCuts.{cut_after-push}
 
 -- No event is left
 
@@ -40,15 +40,13 @@ module _ (net : Net) (schedule : List ℕ) (p : ℕ) where
 -- One event more
 
 module _ (net : Net) (schedule more : List ℕ) (p : ℕ) (grown : more ≡ schedule ++ p ∷ []) where
-  next_cut : cut_after opening more ≡ advanced (cut_after opening schedule) p
-  next_cut = ap (cut_after opening) grown ∙ cut_after-append opening schedule (p ∷ [])
-
   pub left_next : (e : Event) → slice_get (net.script p) (cut_after opening schedule p) ≡ Some e
       → left_after net schedule p ≡ e ∷ left_after net more p
   left_next e is =
       drop-some (net.script p) (cut_after opening schedule p) e is
       ∙ ap (λ k. e ∷ drop k (net.script p))
-      (sym (ap (λ cut. cut p) next_cut ∙ advanced_here (cut_after opening schedule) p p refl))
+      (sym (ap (λ cut. cut p) (cut_after-push schedule more p grown)
+      ∙ advanced_here (cut_after opening schedule) p p refl))
 
   one_entry : (m fewer : ℕ) → m ≡ suc fewer → more ++ replicate fewer p ≡ schedule ++ replicate m p
   one_entry m fewer is =

@@ -38,7 +38,7 @@ use Rattle.sanlp.proofs.ReadCounts.{trace-statement}
 use Rattle.witness_plan.specs.Schedules.{could_come_at, is_ready}
 use Rattle.witness_plan.specs.Sequential.{sequential_schedule}
 use Rattle.witness_plan.specs.Records.{IsOwn}
-use Rattle.witness_plan.proofs.AlongCuts.{cut_here, cut_there}
+use Rattle.witness_plan.proofs.AlongCuts.{cut_here, cut_there, IsCutRun-append}
 use Rattle.witness_plan.proofs.GetCounts.{gets_made}
 use Rattle.witness_plan.proofs.InTraceOrder.{stands, turns_before, until, until_more}
 use Rattle.witness_plan.proofs.NeverFull.{never_full, ready_comes}
@@ -48,11 +48,6 @@ use Rattle.witness_plan.proofs.SourcesBefore.{entries_count, wanted_are_tokens}
 use Rattle.witness_plan.proofs.TokensPut.{events_more, tokens_put}
 
 -- Runs on cuts
-
-run_append : (n : Net) (k : Cut) (run more : List ℕ) → IsCutRun n k run → IsCutRun n (cut_after k run) more
-    → IsCutRun n k (run ++ more)
-run_append n k [] more first later = later
-run_append n k (p ∷ run) more first later = (first.0, run_append n (advanced k p) run more first.1 later)
 
 -- one process makes many events
 run_of_one : (n : Net) (k : Cut) (p m : ℕ) → ((j : ℕ) → j < m → enabled_at n (cut_after k (replicate j p)) p ≡ true)
@@ -276,7 +271,7 @@ module _ (n : Nest) where
       let p = q.0.statement in
       let many = length (point_events n p (turns_before (trace n) t p)) in
       subst (IsCutRun (never_full derived) opening) (sym (until_more (point_events n) (trace n) t q.0 q.1))
-      (run_append (never_full derived) opening (before n t) (replicate many p) (runs_until t (omega arith))
+      (IsCutRun-append (never_full derived) (before n t) (replicate many p) opening (runs_until t (omega arith))
       (run_of_one (never_full derived) (cut_after opening (before n t)) p many
       (λ j lt. ready_comes derived (is_wired n) (cut_after (cut_after opening (before n t)) (replicate j p)) p
       (ready t q.0 q.1 j lt))))

@@ -1,7 +1,7 @@
 use Rattle.std.proofs.Common.{◌≡◌, ◌∙◌, ◌++◌, ◌∷◌, [], ℕ, ℤ, List, true, false, ap, sym, arith}
 use Rattle.sanlp.specs.Cells.{is_output}
 use Rattle.net_core.specs.Held.{run_of}
-use Rattle.clock_sim.proofs.SinkLists.{numbers_printed, numbers_other, lists_printed, lists_other}
+use Rattle.net_core.proofs.SinkLists.{numbers_printed, numbers_other, lists_printed, lists_other}
 use Rattle.clock_sim.proofs.sinks.sink_lists.Goals.{then-is_output+in_ok-from_slice+in_ok-push}
 use Rattle.clock_sim.proofs.sinks.sink_lists.Goals.{else-is_output+in_ok-push-2}
 use Rattle.clock_sim.proofs.sinks.sink_lists.Goals as goal

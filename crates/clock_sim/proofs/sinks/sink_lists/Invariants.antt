@@ -2,7 +2,7 @@ use Rattle.std.proofs.Common.{◌≡◌, ◌+◌, ◌++◌, drop, length}
 use Rattle.sanlp.specs.WellFormed.{numbers_from}
 use Rattle.net_core.specs.Held.{run_of}
 use Rattle.net_core.specs.Sound.{sink_lists, sink_lists_from}
-use Rattle.clock_sim.proofs.SinkLists.{is_printed}
+use Rattle.net_core.proofs.SinkLists.{is_printed}
 use Rattle.clock_sim.proofs.sinks.sink_lists.Given as goal
 
 abbrev pub invariant-loop-array : goal.invariant-loop-array

@@ -1,7 +1,7 @@
 use Rattle.std.proofs.Common.{◌≡◌, ◌∷◌, ◌&&◌, ◌∙◌, true, sym, ap, subst, rules}
 use Rattle.std.specs.List.{list_all}
+use Rattle.std.proofs.iter.SplitParts.{each_way}
 use Rattle.last_writer.specs.Leaves.{answer_at, IsRefusalAmong}
-use Rattle.last_writer.proofs.ProofSteps.{match_weaker}
 use Rattle.last_writer.proofs.WriterLists.{refusal_behind}
 use Rattle.last_writer.proofs.leaves.+first_no.Goals as goal
 
@@ -15,7 +15,7 @@ returns t c =
     let divisions : c.args.divisions.now ≡ d ∷ ds = search rules in
     let places : c.args.places.now ≡ p ∷ ps = search rules in
     let says : answer_at answers p ≡ true = sym c.answer_at.ensures ∙ (search rules) in
-    match_weaker c.first_no.result _ _
+    each_way c.first_no.result _ _ _ _
     (λ h. ap (list_all (answer_at answers)) places ∙ ap (λ b. b && list_all (answer_at answers) ps) says ∙ h)
     (λ refusal h. subst (λ ds. IsRefusalAmong answers ds c.args.places.now refusal) (sym divisions)
     (subst (λ ps. IsRefusalAmong answers (d ∷ ds) ps refusal) (sym places) (refusal_behind answers d p ds ps refusal h)))

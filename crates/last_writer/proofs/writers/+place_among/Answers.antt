@@ -1,5 +1,5 @@
 use Rattle.std.proofs.Common.{◌≡◌, ◌+◌, ◌∷◌, length, sym, ap, subst, rules, arith}
-use Rattle.last_writer.proofs.ProofSteps.{if_some_weaker}
+use Rattle.std.proofs.lemmas.Option.{IfSome_then}
 use Rattle.last_writer.proofs.WriterLists.{test_behind, test_here}
 use Rattle.last_writer.specs.Writers.{IsTestAt}
 use Rattle.last_writer.proofs.writers.+place_among.Goals as goal
@@ -22,10 +22,10 @@ returns-then-is_same t c =
 pub returns : goal.returns
 returns t c =
     let first : c.args.tests.now ≡ c.in_ok-first.first.now ∷ c.in_ok-first.tests.now = search rules in
-    if_some_weaker c.place_among.result _ _
+    IfSome_then c.place_among.result c.place_among.ensures
     (λ place h. (
       h.0 + 1,
       omega (arith, h.1),
       subst (λ tests. IsTestAt tests c.args.division.now (h.0 + 1)) (sym first)
           (test_behind c.in_ok-first.first.now c.in_ok-first.tests.now c.args.division.now h.0 h.2),
-    )) c.place_among.ensures
+    ))

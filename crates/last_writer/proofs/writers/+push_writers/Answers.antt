@@ -1,9 +1,10 @@
-use Rattle.std.proofs.Common.{◌≡◌, ◌∷◌, ◌++◌, ◌+◌, ◌≤◌, [], length, sym, ap, ◌∙◌, subst, rules, arith}
+use Rattle.std.proofs.Common.{◌≡◌, ◌∷◌, ◌++◌, ◌+◌, ◌≤◌, [], length, sym, ap, ◌∙◌, subst, rules, arith, drop, add-one}
 use Rattle.std.specs.Prelude.{IsTrue}
 use Rattle.std.specs.List.{list_all, sum_by}
 use Rattle.std.proofs.lemmas.List.{append-nil, append_assoc, nil_from_length}
 use Rattle.std.proofs.lemmas.Result.{on_ok_weaker}
-use Rattle.last_writer.proofs.StatementWrites.{all_of_others, first_fits, from_here, from_next, sum_of_both, writes_of_both}
+use Rattle.plain_data.proofs.Lists.{drop_parts}
+use Rattle.last_writer.proofs.StatementWrites.{all_of_others, first_fits, sum_of_both, writes_of_both}
 use Rattle.last_writer.specs.Writers.{AreWriters}
 use Rattle.source_tree.specs.Systems.{with_write, write_to, writes_from}
 use Rattle.source_tree.specs.References.{occurrence_of}
@@ -20,8 +21,8 @@ returns-in_default t c before h =
 pub push_writer-requires-clause-statement : goal.push_writer-requires-clause-statement
 push_writer-requires-clause-statement t c =
     let first : c.args.statements.now ≡ c.in-Some.statement.now ∷ c.in-Some.statements.now = search rules in
-    from_here c.args.number c.args.nest.now.statements c.in-Some.statement.now c.in-Some.statements.now
-    (sym c.requires.statements ∙ first)
+    (drop_parts c.args.nest.now.statements c.args.number c.in-Some.statement.now c.in-Some.statements.now
+    (sym c.requires.statements ∙ first)).0
 
 pub push_writer-requires-clause-strides : goal.push_writer-requires-clause-strides
 push_writer-requires-clause-strides t c =
@@ -45,7 +46,9 @@ push_writers-requires t c =
       (
         c.requires.read,
         (
-          sym (from_next c.args.number c.args.nest.now.statements s statements (sym c.requires.statements ∙ first)),
+          sym (ap (λ k. drop k c.args.nest.now.statements) (add-one c.args.number)
+              ∙ (drop_parts c.args.nest.now.statements c.args.number s statements
+              (sym c.requires.statements ∙ first)).1),
           (
             omega (arith, ap length first, c.requires.count),
             (

@@ -5,9 +5,10 @@ use Rattle.std.specs.Global.{Global}
 use Rattle.sanlp.specs.Cells.{is_output}
 use Rattle.sanlp.specs.Points.{points_of}
 use Rattle.net_core.specs.Shape.{turns}
+use Rattle.net_core.proofs.SinkLists.{numbers_printed, numbers_other, lists_printed, lists_other}
 use Rattle.plain_data.proofs.Lists.{drop_read_same}
 use Rattle.thread_runner.specs.Benches.{HaveSpace}
-use Rattle.thread_runner.proofs.BenchLists.{space_less, numbers_out, numbers_other, lists_out, lists_other}
+use Rattle.thread_runner.proofs.BenchLists.{space_less}
 use Rattle.thread_runner.proofs.bench.gathered.Goals.{then-is_output+in-Some, else-is_output}
 use Rattle.thread_runner.proofs.bench.gathered.Goals as goal
 
@@ -30,10 +31,10 @@ loop-array-preserved g c =
           let shrunk : c.loop-array.lists.items ≡ c.if-is_output.lists.items ++ w.in-Some.list ∷ [] =
           w.in-Some.ensures.items
           ∙ ap (λ (v : Vec (Vec ℤ Global) Global). v.items ++ w.in-Some.list ∷ []) (sym w.lists-is) in
-          let fewer = numbers_out nest.arrays at c.array-item.result here out in
+          let fewer = numbers_printed nest.arrays at c.array-item.result here out in
           record {
-            added = rw w.sink-is (lists_out f c.loop-array.sink at nest.arrays c.array-item.result
-                c.loop-array.arrays.items c.if-is_output.arrays.items here out grown) ∙ i.added;
+            added = rw w.sink-is (lists_printed nest.arrays at c.array-item.result here f c.loop-array.sink
+                c.loop-array.arrays.items c.if-is_output.arrays.items out grown) ∙ i.added;
             sinks = omega (arith, i.sinks, fewer, w.sink-is);
             lists = omega (
               arith,
@@ -64,8 +65,8 @@ loop-array-preserved g c =
           ap (λ (v : Vec (Vec ℤ Global) Global). v.items) w.lists-is in
           let as_many = numbers_other nest.arrays at c.array-item.result here other in
           record {
-            added = rw w.sink-is (lists_other f c.loop-array.sink at nest.arrays c.array-item.result
-                c.loop-array.arrays.items c.if-is_output.arrays.items here other grown) ∙ i.added;
+            added = rw w.sink-is (lists_other nest.arrays at c.array-item.result here f c.loop-array.sink
+                c.loop-array.arrays.items c.if-is_output.arrays.items other grown) ∙ i.added;
             sinks = omega (arith, i.sinks, as_many, w.sink-is);
             lists = omega (arith, i.lists, as_many, ap length same);
             space = subst (HaveSpace (turns (points_of nest)) (length nest.statements)) (sym same) i.space;

@@ -7,7 +7,7 @@
 -- writer stands at its place (`plans_are`). The other laws are what the code requires: each source is a
 -- turn of a process, and turns and reads are few. That the table is exact is a premise here.
 use Rattle.std.proofs.Common.{◌≡◌, ◌<◌, ◌≤◌, ◌+◌, ◌-◌, ℕ, zero, suc, List, [], ◌∷◌, ◌++◌, true, false, cond, Some, None}
-use Rattle.std.proofs.Common.{map, take, drop, length, get_or, count_by, refl, sym, ap, ◌∙◌, arith, ◌==◌}
+use Rattle.std.proofs.Common.{map, take, drop, length, get_or, count_by, refl, sym, ap, ◌∙◌, arith, ◌==◌, subst}
 use Rattle.std.specs.Prelude.{Option, slice_get}
 use Rattle.std.specs.Option.{option_and_then, option_map, option_map_or}
 use Rattle.std.specs.List.{All, flat_map, sum_by, range_with_len}
@@ -173,7 +173,7 @@ part_from n points p (first ∷ statements) (suc j) s e =
     ∙ ap (λ q. map (read_sources n points q) (range_with_len 0 (length s.reads))) later
 
 -- the statement that is read at a place of a nest's statements
-pub statement_read : (n : Nest) (statements : List Statement) (p : ℕ) (s : Statement) → statements ≡ n.statements
+statement_read : (n : Nest) (statements : List Statement) (p : ℕ) (s : Statement) → statements ≡ n.statements
     → p < length statements → s ≡ get_or statements p s → slice_get n.statements p ≡ Some s
 statement_read n statements p s are lt is =
     ap (λ xs. slice_get xs p) (sym are) ∙ slice_get_read statements (length statements) p s refl lt is
@@ -182,7 +182,7 @@ module _ (n : Nest) (table : List (List (Option Tag))) (exact : table ≡ source
     (found : slice_get n.statements p ≡ Some s)
     (first count : ℕ) (before : first ≡ sum_by (λ s. length s.reads) (take p n.statements))
     (many : count ≡ length s.reads) where
-  pub sum_more : first + count ≡ sum_by (λ s. length s.reads) (take (p + 1) n.statements)
+  sum_more : first + count ≡ sum_by (λ s. length s.reads) (take (p + 1) n.statements)
   sum_more =
       omega (
         arith,
@@ -190,7 +190,7 @@ module _ (n : Nest) (table : List (List (Option Tag))) (exact : table ≡ source
         ap (λ s. length s.reads) (get_or_from_slice_get n.statements p s s found),
       )
 
-  pub part_exists : first + count ≤ length table
+  part_exists : first + count ≤ length table
   unfolding sources_of
   part_exists =
       omega (
@@ -201,7 +201,7 @@ module _ (n : Nest) (table : List (List (Option Tag))) (exact : table ≡ source
         length-sources_from n (trace n) 0 n.statements,
       )
 
-  pub part_is : take (first + count - first) (drop first table)
+  part_is : take (first + count - first) (drop first table)
       ≡ map (read_sources n (trace n) p) (range_with_len 0 (length s.reads))
   unfolding sources_of
   part_is =
@@ -213,14 +213,14 @@ module _ (n : Nest) (table : List (List (Option Tag))) (exact : table ≡ source
       ∙ part_from n (trace n) 0 n.statements p s found
       ∙ ap (λ q. map (read_sources n (trace n) q) (range_with_len 0 (length s.reads))) front
 
-  pub part_among : All (All (IsTurnAmong (turns_of_all n))) (take (first + count - first) (drop first table))
+  part_among : All (All (IsTurnAmong (turns_of_all n))) (take (first + count - first) (drop first table))
   part_among =
       All-same (All (IsTurnAmong (turns_of_all n))) _ _ part_is
       (All-map (All (IsTurnAmong (turns_of_all n))) (read_sources n (trace n) p) (range_with_len 0 (length s.reads))
       (all_of (λ k. All (IsTurnAmong (turns_of_all n)) (read_sources n (trace n) p k))
       (range_with_len 0 (length s.reads)) (sources_among n p)))
 
-  pub part_short : length (take (first + count - first) (drop first table)) ≤ 8
+  part_short : length (take (first + count - first) (drop first table)) ≤ 8
   part_short =
       omega (
         arith,
@@ -282,7 +282,7 @@ plans_to n p s reads found e =
 abbrev pub plans_below : Nest → ℕ → List ChannelPlan
 plans_below n p = flat_map (λ q. flat_map (plans_at n q) (range_with_len 0 (read_count n q))) (range_with_len 0 p)
 
-pub plans_more : (n : Nest) (p : ℕ) (s : Statement) (reads : List (List (Option Tag))) (plans after : List ChannelPlan)
+plans_more : (n : Nest) (p : ℕ) (s : Statement) (reads : List (List (Option Tag))) (plans after : List ChannelPlan)
     (turns : List ℕ)
     → slice_get n.statements p ≡ Some s → reads ≡ map (read_sources n (trace n) p) (range_with_len 0 (length s.reads))
     → turns ≡ turns_of_all n
@@ -294,6 +294,39 @@ plans_more n p s reads plans after turns found part counts was is =
     ∙ ap (λ old. old ++ flat_map (plans_at n p) (range_with_len 0 (read_count n p))) was
     ∙ sym (flat_map-range_with_len_more (λ q. flat_map (plans_at n q) (range_with_len 0 (read_count n q))) 0 p p
     (omega arith))
+
+-- the part of the table with the sources of a reader's reads, and the channels that they add
+pub record IsReadersPart (n : Nest) (turns : List ℕ) (table : List (List (Option Tag))) (p first count : ℕ)
+    : Type 0 where
+  pub next : first + count ≡ sum_by (λ s. length s.reads) (take (p + 1) n.statements)
+  pub small : first + count ≤ 512
+  pub within : first + count ≤ length table
+  pub short : length (take (first + count - first) (drop first table)) ≤ 8
+  pub among : All (All (IsTurnAmong turns)) (take (first + count - first) (drop first table))
+  pub added : plans_below n p ++ channels_to turns p (take (first + count - first) (drop first table))
+      ≡ plans_below n (p + 1)
+
+pub readers_part : (n : Nest) (turns : List ℕ) (table : List (List (Option Tag))) (statements : List Statement)
+    (p first count : ℕ) (s : Statement)
+    → turns ≡ map length (points_of n) → table ≡ sources_of n → statements ≡ n.statements → p < length statements
+    → s ≡ get_or statements p s → first ≡ sum_by (λ s. length s.reads) (take p n.statements) → count ≡ length s.reads
+    → IsReadersPart n turns table p first count
+readers_part n turns table statements p first count s turns_is exact all lt is before many =
+    let found : slice_get n.statements p ≡ Some s = statement_read n statements p s all lt is in
+    let counts : turns ≡ turns_of_all n = turns_is ∙ turns_are n in
+    let part : List (List (Option Tag)) = take (first + count - first) (drop first table) in
+    let next : first + count ≡ sum_by (λ s. length s.reads) (take (p + 1) n.statements) =
+    sum_more n table exact p s found first count before many in
+    record {
+      next = next;
+      small = omega (arith, few_before n (p + 1), next);
+      within = part_exists n table exact p s found first count before many;
+      short = part_short n table exact p s found first count before many;
+      among = subst (λ (ts : List ℕ). All (All (IsTurnAmong ts)) part) (sym counts)
+          (part_among n table exact p s found first count before many);
+      added = plans_more n p s part (plans_below n p) (plans_below n p ++ channels_to turns p part) turns found
+          (part_is n table exact p s found first count before many) counts refl refl;
+    }
 
 pub plans_all : (n : Nest) (p : ℕ) (plans : List ChannelPlan) → p ≡ length n.statements → plans ≡ plans_below n p
     → plans ≡ plans_of n

@@ -1,24 +1,16 @@
-use Rattle.std.proofs.Common.{◌≡◌, ◌+◌, ◌-◌, ℕ, List, take, drop, length, subst, sym, ap, ◌∙◌, arith}
-use Rattle.std.specs.List.{All}
-use Rattle.channel_plan.specs.Reads.{AreFew, IsTurnAmong}
-use Rattle.channel_plan.proofs.Nests.{few_before, few_turns, part_among, part_exists, part_is, part_short, plans_all}
-use Rattle.channel_plan.proofs.Nests.{plans_more, statement_read, sum_more, turns_are}
+use Rattle.std.proofs.Common.{◌≡◌, ◌+◌, ◌-◌, ◌++◌, take, drop, length, subst, sym, ap, ◌∙◌, arith}
+use Rattle.channel_plan.specs.Reads.{AreFew, channels_to}
+use Rattle.channel_plan.proofs.Nests.{few_before, few_turns, plans_all, readers_part, turns_are}
 use Rattle.channel_plan.proofs.plans.channel_plans.Goals as goal
 
 pub overflow_add-next : goal.overflow_add-next
 overflow_add-next c =
-    let n = c.args.nest.now in
-    let p = c.loop-reader.reader in
-    let s = c.statement-item.result in
-    let found =
-    statement_read n c.as_slice-statement-items.result.now p s c.as_slice-statement-items.ensures
-    c.loop-reader-test.true c.statement-item.is in
-    let exact = c.as_slice-table.ensures ∙ c.requires.sources in
     omega (
       arith,
-      few_before n (p + 1),
-      sum_more n c.as_slice-table.result.now exact p s found c.loop-reader.first
-          c.len.result c.loop-reader.invariant.first c.len.ensures,
+      (readers_part c.args.nest.now c.args.turns.now c.as_slice-table.result.now c.as_slice-statement-items.result.now
+          c.loop-reader.reader c.loop-reader.first c.len.result c.statement-item.result c.requires.turns
+          (c.as_slice-table.ensures ∙ c.requires.sources) c.as_slice-statement-items.ensures c.loop-reader-test.true
+          c.statement-item.is c.loop-reader.invariant.first c.len.ensures).small,
     )
 
 pub offset_bounds-table-first : goal.offset_bounds-table-first
@@ -27,15 +19,10 @@ offset_bounds-table-first c =
 
 pub slice_bounds-add_channels_to-end : goal.slice_bounds-add_channels_to-end
 slice_bounds-add_channels_to-end c =
-    let n = c.args.nest.now in
-    let p = c.loop-reader.reader in
-    let s = c.statement-item.result in
-    let found =
-    statement_read n c.as_slice-statement-items.result.now p s c.as_slice-statement-items.ensures
-    c.loop-reader-test.true c.statement-item.is in
-    let exact = c.as_slice-table.ensures ∙ c.requires.sources in
-    part_exists n c.as_slice-table.result.now exact p s found c.loop-reader.first c.len.result
-    c.loop-reader.invariant.first c.len.ensures
+    (readers_part c.args.nest.now c.args.turns.now c.as_slice-table.result.now c.as_slice-statement-items.result.now
+    c.loop-reader.reader c.loop-reader.first c.len.result c.statement-item.result c.requires.turns
+    (c.as_slice-table.ensures ∙ c.requires.sources) c.as_slice-statement-items.ensures c.loop-reader-test.true
+    c.statement-item.is c.loop-reader.invariant.first c.len.ensures).within
 
 pub add_channels_to-requires-clause-few : goal.add_channels_to-requires-clause-few
 add_channels_to-requires-clause-few c =
@@ -45,53 +32,36 @@ add_channels_to-requires-clause-few c =
 
 pub add_channels_to-requires-clause-reads : goal.add_channels_to-requires-clause-reads
 add_channels_to-requires-clause-reads c =
-    let n = c.args.nest.now in
-    let p = c.loop-reader.reader in
-    let s = c.statement-item.result in
-    let found =
-    statement_read n c.as_slice-statement-items.result.now p s c.as_slice-statement-items.ensures
-    c.loop-reader-test.true c.statement-item.is in
-    let exact = c.as_slice-table.ensures ∙ c.requires.sources in
     omega (
       arith,
-      part_short n c.as_slice-table.result.now exact p s found c.loop-reader.first c.len.result
-          c.loop-reader.invariant.first c.len.ensures,
+      (readers_part c.args.nest.now c.args.turns.now c.as_slice-table.result.now c.as_slice-statement-items.result.now
+          c.loop-reader.reader c.loop-reader.first c.len.result c.statement-item.result c.requires.turns
+          (c.as_slice-table.ensures ∙ c.requires.sources) c.as_slice-statement-items.ensures c.loop-reader-test.true
+          c.statement-item.is c.loop-reader.invariant.first c.len.ensures).short,
     )
 
 pub add_channels_to-requires-clause-among : goal.add_channels_to-requires-clause-among
 add_channels_to-requires-clause-among c =
-    let n = c.args.nest.now in
-    let p = c.loop-reader.reader in
-    let s = c.statement-item.result in
-    let found =
-    statement_read n c.as_slice-statement-items.result.now p s c.as_slice-statement-items.ensures
-    c.loop-reader-test.true c.statement-item.is in
-    let exact = c.as_slice-table.ensures ∙ c.requires.sources in
-    let turns = c.requires.turns ∙ turns_are n in
-    let part =
-    take (c.loop-reader.first + c.len.result - c.loop-reader.first)
-    (drop c.loop-reader.first c.as_slice-table.result.now) in
-    subst (λ (ts : List ℕ). All (All (IsTurnAmong ts)) part) (sym turns)
-    (part_among n c.as_slice-table.result.now exact p s found c.loop-reader.first c.len.result
-    c.loop-reader.invariant.first c.len.ensures)
+    (readers_part c.args.nest.now c.args.turns.now c.as_slice-table.result.now c.as_slice-statement-items.result.now
+    c.loop-reader.reader c.loop-reader.first c.len.result c.statement-item.result c.requires.turns
+    (c.as_slice-table.ensures ∙ c.requires.sources) c.as_slice-statement-items.ensures c.loop-reader-test.true
+    c.statement-item.is c.loop-reader.invariant.first c.len.ensures).among
 
 pub loop-reader-preserved : goal.loop-reader-preserved
 loop-reader-preserved c =
     let n = c.args.nest.now in
-    let p = c.loop-reader.reader in
-    let s = c.statement-item.result in
-    let found =
-    statement_read n c.as_slice-statement-items.result.now p s c.as_slice-statement-items.ensures
-    c.loop-reader-test.true c.statement-item.is in
-    let exact = c.as_slice-table.ensures ∙ c.requires.sources in
-    let turns = c.requires.turns ∙ turns_are n in
+    let part =
+    readers_part n c.args.turns.now c.as_slice-table.result.now c.as_slice-statement-items.result.now
+    c.loop-reader.reader c.loop-reader.first c.len.result c.statement-item.result c.requires.turns
+    (c.as_slice-table.ensures ∙ c.requires.sources) c.as_slice-statement-items.ensures c.loop-reader-test.true
+    c.statement-item.is c.loop-reader.invariant.first c.len.ensures in
     record {
-      first = sum_more n c.as_slice-table.result.now exact p s found c.loop-reader.first c.len.result
-          c.loop-reader.invariant.first c.len.ensures;
-      plans = plans_more n p s _ c.loop-reader.plans.items c.add_channels_to.new.plans.items c.args.turns.now found
-          (part_is n c.as_slice-table.result.now exact p s found c.loop-reader.first c.len.result
-          c.loop-reader.invariant.first c.len.ensures)
-          turns c.loop-reader.invariant.plans c.in_ok-add_channels_to.ensures;
+      first = part.next;
+      plans = c.in_ok-add_channels_to.ensures
+          ∙ ap (λ old. old ++ channels_to c.args.turns.now c.loop-reader.reader
+          (take (c.loop-reader.first + c.len.result - c.loop-reader.first)
+          (drop c.loop-reader.first c.as_slice-table.result.now))) c.loop-reader.invariant.plans
+          ∙ part.added;
     }
 
 pub returns : goal.returns

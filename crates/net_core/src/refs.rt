@@ -70,7 +70,10 @@ impl PartialEq for Refs {
     ghost laws = { refs_per };
 
     fn eq(&self, other: &Refs) -> bool {
-        self.len == other.len && self.zeros == other.zeros && self.slots == other.slots
+        let used = usize::from(self.len);
+        self.len == other.len
+            && self.zeros == other.zeros
+            && self.slots[..used] == other.slots[..used]
     }
 }
 

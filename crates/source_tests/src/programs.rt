@@ -71,7 +71,7 @@ pub(crate) const BEFORE: &[u8] =
     b"param N; out y[N]; var a[N]; for (i = 0; i < N; i++) { y[i] = a[i]; \
     for (j = 0; j < N; j++) if (2*j + 1 <= 5) a[2*j] = i; }";
 
-pub(crate) const BOTH: &[u8] = b"param N; out y[N]; var a[N]; \
+pub(crate) const BOTH: &[u8] = b"param N; var a[N]; \
     for (i = 0; i < N; i++) for (j = 0; j < N; j++) a[2*i] = a[3*j] + a[i + j];";
 
 // A subscript with a stride between two without one.

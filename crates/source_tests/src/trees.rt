@@ -256,6 +256,27 @@ fn all_are_right(alloc: Global, source: &[u8], n: i64, kind: Kind) -> Result<boo
     all_have_sources(alloc, &nest, &points, kind, &table)
 }
 
+// Whether each read of a table has a last writer at some point.
+fn has_writers(table: &SourceTable) -> bool {
+    for sources in table.of.as_slice() {
+        if sources.as_slice().iter().all(|source| source.is_none()) {
+            return false;
+        }
+    }
+    true
+}
+
+// Whether each read of a source has a last writer at some point.
+fn all_have_writers(alloc: Global, source: &[u8], n: i64) -> Result<bool, Fail> {
+    let nest = nest(alloc, source, n)?;
+    if size(&nest).is_err() {
+        return Err(Fail::from("the nest is large"));
+    }
+    let points = points(alloc, &nest)?;
+    let table = sweep(alloc, &nest, &points)?;
+    Ok(has_writers(&table))
+}
+
 // Sources, and the greatest N.
 static SOURCES: [(&[u8], i64); 14] = [
     (STRIDED, 7),
@@ -311,8 +332,8 @@ fn trees_have_the_last_writes(rt: HostRuntime) -> Result<(), Fail> {
     Ok(())
 }
 
-// Sources, and the greatest N. What is read was written last by the statement of the greatest number that wrote it before, and
-// most loops deep.
+// Sources, and the greatest N, at which each read has a last writer somewhere. What is read was written last by the statement of
+// the greatest number that wrote it before, and most loops deep.
 static BY_WRITER: [(&[u8], Kind, i64); 17] = [
     (INCREMENT, Kind::Differences, 5),
     (RUNNING_SUM, Kind::Differences, 5),
@@ -327,7 +348,7 @@ static BY_WRITER: [(&[u8], Kind, i64); 17] = [
     (GUARDED_BELOW, Kind::Strides, 5),
     (ONE_OF_TWO, Kind::Strides, 5),
     (BEFORE, Kind::Strides, 5),
-    (TWO_LOOPS, Kind::Strides, 3),
+    (TWO_LOOPS, Kind::Strides, 7),
     (BOTH, Kind::Strides, 3),
     (TWICE, Kind::Strides, 3),
     (BETWEEN, Kind::Strides, 3),
@@ -339,6 +360,7 @@ fn trees_of_each_writer_and_level_have_the_last_writes(rt: HostRuntime) -> Resul
         for n in 0..=*most {
             assert!(rt; all_are_right(rt.alloc(), source, n, *kind)?);
         }
+        assert!(rt; all_have_writers(rt.alloc(), source, *most)?);
     }
     Ok(())
 }

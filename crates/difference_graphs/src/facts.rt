@@ -61,15 +61,58 @@ fn used_count(form: &Form) -> usize {
         .count()
 }
 
-// Betters the arrival at the end of a row.
-fn relax(found: &mut Items<Option<Arrival>>, number: u32, row: &Row) {
-    let Some(ends) = ends_of(row) else {
-        return;
+// A row of this number that bounds a difference: `x_from - x_to + constant >= 0`.
+#[derive(Clone, Copy)]
+struct Step {
+    ends: Ends,
+    constant: i128,
+    row: u32,
+}
+
+// The rows of a context: those that bound differences, and the numbers of the others.
+#[derive(Drop)]
+struct Sorted {
+    steps: Items<Step>,
+    others: Items<u32>,
+}
+
+// Adds these rows, of which the first has this number.
+fn push_sorted(sorted: &mut Sorted, number: u32, rows: &[Row]) -> Result<(), AllocError> {
+    let Some((row, rows)) = rows.split_first() else {
+        return Ok(());
     };
+    match ends_of(row) {
+        Some(ends) => sorted.steps.push(Step {
+            ends,
+            constant: row.constant,
+            row: number,
+        })?,
+        None => sorted.others.push(number)?,
+    }
+    push_sorted(sorted, number.wrapping_add(1), rows)
+}
+
+fn sorted_rows(context: &System) -> Result<Sorted, AllocError> {
+    let alloc = context.rows.allocator();
+    let mut sorted = Sorted {
+        steps: Items::new(alloc),
+        others: Items::new(alloc),
+    };
+    push_sorted(&mut sorted, 0, context.rows.as_slice())?;
+    Ok(sorted)
+}
+
+// Betters the arrival at the end of a row, and answers whether it did.
+fn relax(found: &mut Items<Option<Arrival>>, step: &Step) -> bool {
+    let Step {
+        ends,
+        constant,
+        row,
+    } = *step;
     let Some(Some(start)) = found.get(ends.from).copied() else {
-        return;
+        return false;
     };
-    let sum = start.sum.saturating_add(row.constant);
+    let sum = start.sum.saturating_add(constant);
     let better = match found.get(ends.to).copied() {
         Some(Some(end)) => sum < end.sum,
         Some(None) => true,
@@ -80,24 +123,31 @@ fn relax(found: &mut Items<Option<Arrival>>, number: u32, row: &Row) {
             ends.to,
             Some(Arrival {
                 sum,
-                row: number,
+                row,
                 from: ends.from,
             }),
         );
     }
+    better
 }
 
-// Betters the arrivals by each of these rows, of which the first has this number.
-fn relax_all(found: &mut Items<Option<Arrival>>, number: u32, rows: &[Row]) {
-    let Some((row, rows)) = rows.split_first() else {
-        return;
-    };
-    relax(found, number, row);
-    relax_all(found, number.wrapping_add(1), rows);
+// Betters the arrivals by each of these rows, and answers whether one did.
+fn relax_all(found: &mut Items<Option<Arrival>>, steps: &[Step]) -> bool {
+    let mut bettered = false;
+    for step in steps {
+        if relax(found, step) {
+            bettered = true;
+        }
+    }
+    bettered
 }
 
 // Per node how it is reached from one of them by rows that bound differences, after Bellman and Ford.
-fn arrivals(context: &System, start: usize) -> Result<Items<Option<Arrival>>, AllocError> {
+fn arrivals(
+    context: &System,
+    steps: &[Step],
+    start: usize,
+) -> Result<Items<Option<Arrival>>, AllocError> {
     let nodes = context.vars as usize + 1;
     let mut found = Items::new(context.rows.allocator());
     for node in 0..nodes {
@@ -113,7 +163,9 @@ fn arrivals(context: &System, start: usize) -> Result<Items<Option<Arrival>>, Al
         found.push(first)?;
     }
     for _ in 0..nodes {
-        relax_all(&mut found, 0, context.rows.as_slice());
+        if !relax_all(&mut found, steps) {
+            break;
+        }
     }
     Ok(found)
 }
@@ -148,9 +200,14 @@ fn append_way(
 }
 
 // Rows whose sum may be a form that is a difference, less a number.
-fn by_way(context: &System, form: &Form, ends: Ends) -> Result<Option<Items<Term>>, AllocError> {
+fn by_way(
+    context: &System,
+    steps: &[Step],
+    form: &Form,
+    ends: Ends,
+) -> Result<Option<Items<Term>>, AllocError> {
     let mut terms = Items::new(context.rows.allocator());
-    let found = arrivals(context, ends.from)?;
+    let found = arrivals(context, steps, ends.from)?;
     match append_way(&mut terms, &found, ends.from, ends.to, 1)? {
         Some(sum) => {
             if sum <= form.constant {
@@ -168,6 +225,7 @@ fn by_way(context: &System, form: &Form, ends: Ends) -> Result<Option<Items<Term
 fn append_bound(
     terms: &mut Items<Term>,
     context: &System,
+    steps: &[Step],
     above: &Items<Option<Arrival>>,
     variable: usize,
     coef: i128,
@@ -177,7 +235,7 @@ fn append_bound(
         return Ok(Some(0));
     }
     if coef > 0 {
-        let below = arrivals(context, variable)?;
+        let below = arrivals(context, steps, variable)?;
         let sum = append_way(terms, &below, variable, none, coef)?;
         return Ok(sum.and_then(|sum| sum.checked_mul(coef)));
     }
@@ -189,12 +247,16 @@ fn append_bound(
 }
 
 // Rows whose sum may be a form less a number, by the bounds of each variable by itself.
-fn by_box(context: &System, form: &Form) -> Result<Option<Items<Term>>, AllocError> {
+fn by_box(
+    context: &System,
+    steps: &[Step],
+    form: &Form,
+) -> Result<Option<Items<Term>>, AllocError> {
     let mut terms = Items::new(context.rows.allocator());
-    let above = arrivals(context, context.vars as usize)?;
+    let above = arrivals(context, steps, context.vars as usize)?;
     let mut least = form.constant;
     for (variable, coef) in form.coefs.as_slice().iter().enumerate() {
-        let Some(bound) = append_bound(&mut terms, context, &above, variable, *coef)? else {
+        let Some(bound) = append_bound(&mut terms, context, steps, &above, variable, *coef)? else {
             return Ok(None);
         };
         least = least.saturating_sub(bound);
@@ -206,7 +268,11 @@ fn by_box(context: &System, form: &Form) -> Result<Option<Items<Term>>, AllocErr
 }
 
 // Rows whose sum may be a form less a number: none for a number, a way for a difference, and else a box.
-fn by_bounds(context: &System, form: &Form) -> Result<Option<Items<Term>>, AllocError> {
+fn by_bounds(
+    context: &System,
+    steps: &[Step],
+    form: &Form,
+) -> Result<Option<Items<Term>>, AllocError> {
     if is_constant(form) {
         if form.constant < 0 {
             return Ok(None);
@@ -214,8 +280,8 @@ fn by_bounds(context: &System, form: &Form) -> Result<Option<Items<Term>>, Alloc
         return Ok(Some(Items::new(context.rows.allocator())));
     }
     match ends_of(form) {
-        Some(ends) => by_way(context, form, ends),
-        None => by_box(context, form),
+        Some(ends) => by_way(context, steps, form, ends),
+        None => by_box(context, steps, form),
     }
 }
 
@@ -257,7 +323,7 @@ fn row_with(rows: &[Row], number: u32, form: &Form) -> Option<u32>
 // The form less a row that is no difference, where that has no more variables.
 #[tactic(auto, using(int_polyhedra::proofs::Variables::product_over))]
 fn rest_of(form: &Form, row: &Row) -> Option<Form> {
-    if ends_of(row).is_some() || row.coefs.len() != form.coefs.len() {
+    if row.coefs.len() != form.coefs.len() {
         return None;
     }
     let rest = form.add(&row.scale(-1).ok()?).ok()?;
@@ -267,33 +333,38 @@ fn rest_of(form: &Form, row: &Row) -> Option<Form> {
     Some(rest)
 }
 
-// Bounds, and one of these rows besides, of which the first has this number.
+// Bounds, and one of the rows of these numbers besides.
 fn by_other_row(
     context: &System,
-    rows: &[Row],
-    number: u32,
+    steps: &[Step],
+    others: &[u32],
     form: &Form,
 ) -> Result<Option<Items<Term>>, AllocError> {
-    let Some((row, rows)) = rows.split_first() else {
+    let Some((number, others)) = others.split_first() else {
+        return Ok(None);
+    };
+    let Some(row) = context.rows.get(*number as usize) else {
         return Ok(None);
     };
     if let Some(rest) = rest_of(form, row) {
-        if let Some(mut terms) = by_bounds(context, &rest)? {
+        if let Some(mut terms) = by_bounds(context, steps, &rest)? {
             terms.push(Term {
-                row: number,
+                row: *number,
                 times: 1,
             })?;
             return Ok(Some(terms));
         }
     }
-    by_other_row(context, rows, number.wrapping_add(1), form)
+    by_other_row(context, steps, others, form)
 }
 
 // Rows whose sum may be the form less a number that is not below 0. Nothing is promised of them.
 fn search(context: &System, form: &Form) -> Result<Option<Items<Term>>, AllocError> {
-    match by_bounds(context, form)? {
+    let sorted = sorted_rows(context)?;
+    let steps = sorted.steps.as_slice();
+    match by_bounds(context, steps, form)? {
         Some(terms) => Ok(Some(terms)),
-        None => by_other_row(context, context.rows.as_slice(), 0, form),
+        None => by_other_row(context, steps, sorted.others.as_slice(), form),
     }
 }
 

@@ -243,7 +243,7 @@ fn by_back(
     by_outs(context, bounds, zero, outs.edges, outs.first, back, number)
 }
 
-// By one of these edges from 0 and one of these edges back to it. The first of those has this number.
+// By one of these edges from 0 and one of these edges back to it, the last one first. The first of those has this number.
 fn by_rounds(
     context: &System,
     bounds: &Bounds,
@@ -263,14 +263,15 @@ fn by_rounds(
     let Some((back, backs)) = backs.split_first() else {
         return Ok(None);
     };
-    let found = by_back(context, bounds, zero, outs, back, number)?;
+    let found = by_rounds(context, bounds, zero, outs, backs, number + 1)?;
     match found {
         Some(terms) => Ok(Some(terms)),
-        None => by_rounds(context, bounds, zero, outs, backs, number + 1),
+        None => by_back(context, bounds, zero, outs, back, number),
     }
 }
 
-// By one cycle that uses order rows behind the candidate's own.
+// By one cycle that uses order rows behind the candidate's own. Mostly it is a row of the candidate and the last order row, that the
+// place stands before the point, so these are looked at first.
 fn by_orders(
     context: &System,
     candidate: &Candidate,
@@ -292,16 +293,16 @@ fn by_orders(
         edges: orders,
         first: behind,
     };
-    let by_order = by_rounds(context, bounds, zero, order, orders, behind)?;
-    if let Some(terms) = by_order {
-        return Ok(Some(terms));
-    }
     let first = Numbered {
         edges: own,
         first: 0,
     };
     let by_first = by_rounds(context, bounds, zero, first, orders, behind)?;
     if let Some(terms) = by_first {
+        return Ok(Some(terms));
+    }
+    let by_order = by_rounds(context, bounds, zero, order, orders, behind)?;
+    if let Some(terms) = by_order {
         return Ok(Some(terms));
     }
     by_rounds(context, bounds, zero, order, own, 0)

@@ -1,4 +1,4 @@
-use Rattle.std.proofs.Common.{◌≡◌, ◌∷◌, List, length, ap, subst, rules, arith}
+use Rattle.std.proofs.Common.{◌≡◌, ◌+◌, ◌∷◌, List, length, ap, subst, rules, arith}
 use Rattle.std.specs.Prelude.{IfSome}
 use Rattle.std.proofs.lemmas.Option.{IfSome_then}
 use Rattle.std.proofs.lemmas.Result.{IfOk-weaker}
@@ -39,21 +39,22 @@ by_rounds-requires t c =
 pub returns-in-Some-found : goal.returns-in-Some-found
 returns-in-Some-found t c = λ own edges a.
     let first : c.args.backs.now ≡ c.in-Some.back.now ∷ c.in-Some.backs.now = search rules in
-    let told = subst (λ o. IfSome o (λ ts. (own edges backs : List Edge)
+    let told = subst (λ o. IfSome o (λ ts. (own edges : List Edge)
     → AreBack c.args.context.now own edges c.args.bounds.now c.args.zero c.args.outs.edges.now c.args.outs.first
-    (c.in-Some.back.now ∷ backs) c.args.number
+    c.in-Some.backs.now (c.args.number + 1)
     → IsContradicted c.args.context.now edges ts)) c.in-Some-found.is c.in_ok-found.ensures in
-    told own edges c.in-Some.backs.now (subst (λ backs. AreBack c.args.context.now own edges c.args.bounds.now
-    c.args.zero c.args.outs.edges.now c.args.outs.first backs c.args.number) first a)
-
-pub returns-in-None : goal.returns-in-None
-returns-in-None t c =
-    let first : c.args.backs.now ≡ c.in-Some.back.now ∷ c.in-Some.backs.now = search rules in
-    IfOk-weaker c.by_rounds.result _ _
-    (λ found h. IfSome_then found h
-    (λ ts told own edges a.
     told own edges
     (back_next c.args.context.now own edges c.args.bounds.now c.args.zero c.args.outs.edges.now c.args.outs.first
     c.in-Some.back.now c.in-Some.backs.now c.args.number
     (subst (λ backs. AreBack c.args.context.now own edges c.args.bounds.now c.args.zero c.args.outs.edges.now
-    c.args.outs.first backs c.args.number) first a)))) c.by_rounds.ensures
+    c.args.outs.first backs c.args.number) first a))
+
+pub returns-in-None : goal.returns-in-None
+returns-in-None t c =
+    let first : c.args.backs.now ≡ c.in-Some.back.now ∷ c.in-Some.backs.now = search rules in
+    IfOk-weaker c.by_back.result _ _
+    (λ found h. IfSome_then found h
+    (λ ts told own edges a.
+    told own edges c.in-Some.backs.now
+    (subst (λ backs. AreBack c.args.context.now own edges c.args.bounds.now c.args.zero c.args.outs.edges.now
+    c.args.outs.first backs c.args.number) first a))) c.by_back.ensures

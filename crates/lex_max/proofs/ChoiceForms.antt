@@ -1,12 +1,12 @@
 -- The forms of a choice, and how far one is above another.
 use Rattle.std.proofs.Common.{◌≡◌, ◌+◌, ◌^◌, ℕ, negsuc, ◌-ℤ◌, List, ◌∷◌, length, sym, ap, ◌∙◌, subst, arith}
-use Rattle.std.specs.Prelude.{Option, Some, None, IfSome}
+use Rattle.std.specs.Prelude.{Option, Some, None, slice_get, IfSome}
 use Rattle.affine_core.specs.declared.form.Form.{Form}
 use Rattle.affine_core.specs.Affine.{form_product, form_sum}
 use Rattle.int_polyhedra.specs.declared.system.System.{System}
 use Rattle.difference_graphs.specs.Asked.{depth_of_write}
-use Rattle.lex_max.specs.Choices.{AreReady, IsChoosing}
-use Rattle.lex_max.specs.ChoiceSteps.{IsSmallForm}
+use Rattle.lex_max.specs.Choices.{uppers_of, AreReady, IsChoosing}
+use Rattle.lex_max.specs.ChoiceSteps.{AreSmallForms, IsSmallForm}
 use Rattle.difference_graphs.specs.Facts.{form_parts}
 use Rattle.difference_graphs.specs.declared.closure.Bounds.{Bounds}
 use Rattle.lex_max.specs.declared.decide.Choice.{Choice}
@@ -66,3 +66,11 @@ module _ (w : Writes) (edges : List Edge) (bounds : Bounds) (ready : AreReady w 
       is_led w edges bounds ready (length choices) (length h.done) form
       (form_at_done w edges bounds ready context form forms more choice choices h) in
       record { over = led.over; within = led.small }
+
+-- all forms that bound a variable
+pub small_uppers : (w : Writes) (edges : List Edge) (bounds : Bounds) (ready : AreReady w edges bounds) (v : ℕ)
+    (forms : List (Option Form)) → forms ≡ uppers_of (depth_of_write w) bounds edges v → AreSmallForms w.vars forms
+small_uppers w edges bounds ready v forms is k form at =
+    let led : IsLed w edges bounds ready v k form =
+    is_led w edges bounds ready v k form (sym (ap (λ fs. slice_get fs k) is) ∙ at) in
+    record { over = led.over; within = led.small }

@@ -1,5 +1,5 @@
 -- What follows a choice among a variable's first forms, with one form more.
-use Rattle.std.specs.Prelude.{◌≡◌, ◌^◌, ◌+◌, ℕ, List, Option, Some, length, ◌++◌, [], ◌∷◌}
+use Rattle.std.specs.Prelude.{◌≡◌, ◌^◌, ◌+◌, ℕ, List, Option, Some, length, slice_get, ◌++◌, [], ◌∷◌}
 use Rattle.affine_core.specs.declared.form.Form.{Form}
 use Rattle.int_polyhedra.specs.declared.system.System.{System}
 use Rattle.int_polyhedra.specs.Steps.{negation_of}
@@ -15,6 +15,11 @@ use Rattle.row_sums.specs.Parts.{IsWithin}
 pub record IsSmallForm (vars : ℕ) (form : Form) : Type 0 where
   pub over : length form.coefs ≡ vars
   pub within : IsWithin (2 ^ 33 + 2 ^ 39) form
+
+-- forms some of which are there, each of these over so many variables with small numbers
+abbrev pub AreSmallForms : ℕ → List (Option Form) → Type 0
+AreSmallForms vars forms =
+    (k : ℕ) (form : Form) → slice_get forms k ≡ Some (Some form) → IsSmallForm vars form
 
 -- choices of the context with a form behind, and of the one with the form's opposite behind
 pub record AreEither (context : System) (form : Option Form) (choice : Choice) (above : Form)

@@ -7,10 +7,10 @@ ghost use Rattle.difference_graphs.specs.declared.closure.Bounds.{Bounds as Boun
 ghost use Rattle.difference_graphs.specs.declared.edges.Edge.{Edge as EdgeOf};
 ghost use Rattle.lex_max.specs.Answer.{IsAnswer, IsContextOf};
 ghost use Rattle.difference_graphs.specs.Cycles.{IsCycle};
-ghost use Rattle.difference_graphs.specs.Asked.{depth_of_write};
+ghost use Rattle.difference_graphs.specs.Asked.{depth_of_write, IsAsked};
 ghost use Rattle.affine_core.specs.declared.form.Form.{Form as FormOf};
 ghost use Rattle.int_polyhedra.specs.Steps.{negation_of};
-ghost use Rattle.lex_max.specs.ChoiceSteps.{IsChoiceStep, IsFollowed, IsSmallForm};
+ghost use Rattle.lex_max.specs.ChoiceSteps.{AreSmallForms, IsChoiceStep, IsFollowed, IsSmallForm};
 ghost use Rattle.lex_max.specs.Choices.{chosen_place, choices_left, upper_of, uppers_from, uppers_of, with_terms, AllNone, AreCertsSoFar, AreChosen, AreReady, IsChoosing, IsNextChoice};
 ghost use Rattle.difference_graphs.specs.Edges.{edge_parts, IsEdge};
 ghost use Rattle.lex_max.specs.EdgeStates.{IsEdgeState};
@@ -106,38 +106,64 @@ fn all_upper_forms(w: &Writes, graph: &Graph) -> Result<Items<Items<Option<Form>
     Ok(all)
 }
 
-// The last form that is there, with its number, where the first has this number. Rows of the order before the read come
-// last, so that the choice begins with a reader's variable where it can.
-fn last_form(forms: &[Option<Form>], number: usize) -> Option<(usize, Form)>
-    requires { number + length forms.now < 2 ^ 32 }
-    ensures { MatchOption result (AllNone forms.now)
-        (λ last. (k : ℕ) × (last.0 ≡ number + k) × (slice_get forms.now k ≡ Some (Some last.1))) }
+// Whether the context tells that a form is no greater than another, from which it differs.
+fn is_no_greater(context: &System, form: &Form, other: &Form) -> Result<bool, AllocError>
+    requires context { IsContext context.now }
+    requires form { IsSmallForm context.now.vars form.now }
+    requires other { IsSmallForm context.now.vars other.now }
 {
-    let Some((form, rest)) = forms.split_first() else {
-        return None;
-    };
-    let later = last_form(rest, number + 1);
-    if let Some(last) = later {
-        return Some(last);
+    if form.constant == other.constant && form.coefs == other.coefs {
+        return Ok(false);
     }
-    match form {
-        Some(form) => Some((number, form.copy())),
-        None => None,
-    }
+    let above = difference(other, form);
+    is_known(context, &above)
 }
 
-fn start(w: &Writes, forms: &[Option<Form>]) -> Choice
+// A form that is there, with its number, where the first has this number: one than which none of the others is known to be less, so
+// that the choice begins with it. Rows of the order before the read come last, so it is a reader's variable where it can be.
+fn least_form(
+    context: &System,
+    forms: &[Option<Form>],
+    number: usize,
+) -> Result<Option<(usize, Form)>, AllocError>
+    requires context { IsContext context.now }
+    requires forms { AreSmallForms context.now.vars forms.now }
+    requires few { number + length forms.now < 2 ^ 32 }
+    ensures { IfOk result (λ found. MatchOption found (AllNone forms.now) (λ least. (k : ℕ)
+        × (least.0 ≡ number + k) × (slice_get forms.now k ≡ Some (Some least.1)))) }
+{
+    let Some((first, rest)) = forms.split_first() else {
+        return Ok(None);
+    };
+    let later = least_form(context, rest, number + 1)?;
+    let Some(form) = first else {
+        return Ok(later);
+    };
+    let Some(last) = later else {
+        return Ok(Some((number, form.copy())));
+    };
+    if is_no_greater(context, form, &last.1)? {
+        return Ok(Some((number, form.copy())));
+    }
+    Ok(Some(last))
+}
+
+// The choice of a variable that these forms bound, before any is compared with another.
+fn start(w: &Writes, context: &System, forms: &[Option<Form>]) -> Result<Choice, AllocError>
+    requires context { IsContext context.now }
+    requires forms { AreSmallForms context.now.vars forms.now }
     requires few { length forms.now ≤ 56 }
     requires some { AllNone forms.now → ⊥ }
-    ensures edge { slice_get forms.now result.edge ≡ Some (Some result.form) }
-    ensures empty { result.less ≡ [] }
+    ensures edge { IfOk result
+        (λ choice. slice_get forms.now choice.edge ≡ Some (Some choice.form)) }
+    ensures empty { IfOk result (λ choice. choice.less ≡ []) }
 {
-    match last_form(forms, 0) {
-        Some((edge, form)) => Choice {
+    match least_form(context, forms, 0)? {
+        Some((edge, form)) => Ok(Choice {
             edge,
             form,
             less: Items::new(w.alloc),
-        },
+        }),
         None => unreachable!(),
     }
 }
@@ -410,7 +436,7 @@ fn choose_next(
         return confirm_all(w, graph, context, chosen);
     };
     let next = next.as_slice();
-    let first = start(w, next);
+    let first = start(w, context, next)?;
     choose(w, graph, context, next, more, &first, chosen)
 }
 
@@ -744,7 +770,7 @@ fn choose_all(w: &Writes, graph: &Graph, context: &System) -> Result<Tree, Alloc
         return confirm_all(w, graph, context, &[]);
     };
     let forms = forms.as_slice();
-    let first = start(w, forms);
+    let first = start(w, context, forms)?;
     choose(w, graph, context, forms, more, &first, &[])
 }
 
@@ -757,6 +783,20 @@ fn is_known(context: &System, form: &Form) -> Result<bool, AllocError>
 {
     let found = known(context, form)?;
     Ok(found.is_some())
+}
+
+// Whether a form is known to be at least 0 where the context's rows and the forms of these cycles are.
+fn is_told(w: &Writes, context: &System, cycles: &[Cycle], form: &Form) -> Result<bool, AllocError>
+    requires asked { IsAsked w.now }
+    requires context { IsContextOf w.now (length cycles.now) context.now }
+    requires cycles { (edges : List EdgeOf) × All (IsCycle w.now.vars edges) cycles.now }
+    requires over { length form.now.coefs ≡ w.now.vars }
+{
+    let Some((cycle, cycles)) = cycles.split_first() else {
+        return is_known(context, form);
+    };
+    let more = with_row(context, cycle.form.copy())?;
+    is_told(w, &more, cycles, form)
 }
 
 /// The tree of a context, where these cycles through 0 are yet to be tested: first it is tested that each is at least 0, and
@@ -785,7 +825,7 @@ pub fn conditions(
     }
 }
 
-// Tests the form of a cycle.
+// Tests the form of a cycle, unless those of the others tell it.
 #[cycle(conditions)]
 fn condition(
     w: &Writes,
@@ -800,6 +840,9 @@ fn condition(
     requires rest { All (IsCycle w.now.vars graph.now.edges.now) rest.now }
     ensures { IfOk result (IsAnswer w.now context.now (length rest.now + 393)) }
 {
+    if is_told(w, context, rest, &cycle.form)? {
+        return conditions(w, graph, context, rest);
+    }
     let above = with_row(context, cycle.form.copy())?;
     let yes = conditions(w, graph, &above, rest)?;
     cycle_test(w, context, cycle, yes)

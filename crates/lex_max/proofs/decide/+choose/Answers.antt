@@ -7,7 +7,7 @@ use Rattle.std.proofs.lemmas.Result.{IfOk-weaker}
 use Rattle.affine_core.specs.declared.form.Form.{Form}
 use Rattle.lex_max.specs.Answer.{IsAnswer, IsContextOf}
 use Rattle.difference_graphs.specs.Asked.{depth_of_write}
-use Rattle.lex_max.specs.ChoiceSteps.{IsChoiceStep, IsFollowed, IsSmallForm}
+use Rattle.lex_max.specs.ChoiceSteps.{AreSmallForms, IsChoiceStep, IsFollowed, IsSmallForm}
 use Rattle.lex_max.specs.Choices.{choices_left, IsChoosing}
 use Rattle.difference_graphs.specs.Facts.{with_form}
 use Rattle.difference_graphs.proofs.Small.{negation_of-some}
@@ -15,7 +15,7 @@ use Rattle.lex_max.proofs.LeastForm.{choices_behind}
 use Rattle.lex_max.proofs.DecisionContexts.{chosen_all, choosing_end, choosing_start, choosing_step, context_is}
 use Rattle.lex_max.proofs.DecisionContexts.{context_more, few_uppers, next_more, opposite_long, opposite_small}
 use Rattle.lex_max.proofs.DecisionContexts.{some_upper}
-use Rattle.lex_max.proofs.ChoiceForms.{chosen_small, next_small}
+use Rattle.lex_max.proofs.ChoiceForms.{chosen_small, next_small, small_uppers}
 use Rattle.lex_max.proofs.TestTrees.{answer_test}
 use Rattle.lex_max.proofs.ZeroLeaves.{answer_wider, context_less}
 use Rattle.row_sums.specs.Parts.{IsWithin}
@@ -159,8 +159,29 @@ choose_next-returns-in_default t c =
     (λ tree h. answer_wider c.args.w.now c.args.context.now (length c.args.graph.now.edges.now)
     (choices_left [] c.args.more.now) tree (omega (arith, few)) h) c.confirm_all.ensures
 
-pub choose_next-start-first-requires-clause-few : goal.choose_next-start-first-requires-clause-few
-choose_next-start-first-requires-clause-few t c =
+pub choose_next-start-requires-clause-context : goal.choose_next-start-requires-clause-context
+choose_next-start-requires-clause-context t c = context_is c.args.w.now (choices_left [] c.args.more.now)
+    c.args.context.now c.requires.ready.graph.asked c.requires.context
+
+pub choose_next-start-requires-clause-forms : goal.choose_next-start-requires-clause-forms
+choose_next-start-requires-clause-forms t c =
+    let w = c.args.w.now in
+    let edges = c.args.graph.now.edges.now in
+    let bounds = c.args.graph.now.bounds.now in
+    let context = c.args.context.now in
+    let next = c.in-Some.next.now in
+    let rest = c.in-Some.more.now in
+    let more_is : c.args.more.now ≡ next ∷ rest = search rules in
+    let h = subst
+    (λ more. IsChoosing (depth_of_write w) bounds edges context [] more c.args.choice.now c.args.choices.now) more_is
+    c.requires.choosing in
+    let n = next_more w edges bounds c.requires.ready context next rest c.args.choice.now c.args.choices.now h in
+    subst (λ v. AreSmallForms v c.as_slice-next.result.now) (sym c.requires.context.vars)
+    (small_uppers w edges bounds c.requires.ready (length c.args.choices.now + 1) c.as_slice-next.result.now
+    (c.as_slice-next.ensures ∙ n.forms))
+
+pub choose_next-start-requires-clause-few : goal.choose_next-start-requires-clause-few
+choose_next-start-requires-clause-few t c =
     let w = c.args.w.now in
     let edges = c.args.graph.now.edges.now in
     let bounds = c.args.graph.now.bounds.now in
@@ -175,8 +196,8 @@ choose_next-start-first-requires-clause-few t c =
     few_uppers w edges bounds c.requires.ready (length c.args.choices.now + 1) c.as_slice-next.result.now
     (c.as_slice-next.ensures ∙ n.forms)
 
-pub choose_next-start-first-requires-clause-some : goal.choose_next-start-first-requires-clause-some
-choose_next-start-first-requires-clause-some t c =
+pub choose_next-start-requires-clause-some : goal.choose_next-start-requires-clause-some
+choose_next-start-requires-clause-some t c =
     let w = c.args.w.now in
     let edges = c.args.graph.now.edges.now in
     let bounds = c.args.graph.now.bounds.now in
@@ -219,11 +240,11 @@ choose_next-choose-requires t c =
               (omega (arith, ap (sum_by length) more_is, sum_by-cons length next rest, fewer))
               c.requires.context,
           choosing_start w edges bounds c.requires.ready context
-              (length c.args.choices.now + 1) forms rest c.start-first.result c.as_slice-chosen.result.now
+              (length c.args.choices.now + 1) forms rest c.in_ok-first.first c.as_slice-chosen.result.now
               (ap length (c.as_slice-chosen.ensures ∙ c.in_ok-all.ensures)
               ∙ length_push c.args.choices.now c.args.choice.now)
-              n.inside (c.as_slice-next.ensures ∙ n.forms) n.others c.start-first.ensures.edge
-              c.start-first.ensures.empty
+              n.inside (c.as_slice-next.ensures ∙ n.forms) n.others c.in_ok-first.ensures.edge
+              c.in_ok-first.ensures.empty
               (choosing_end w edges bounds c.requires.ready context
               (next ∷ rest) c.args.choice.now c.args.choices.now c.as_slice-chosen.result.now
               (c.as_slice-chosen.ensures ∙ c.in_ok-all.ensures) h),

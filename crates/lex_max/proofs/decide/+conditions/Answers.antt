@@ -96,6 +96,37 @@ conditions-returns-in-None t c =
 
 -- A Test
 
+pub condition-is_told-requires-clause-asked : goal.condition-is_told-requires-clause-asked
+condition-is_told-requires-clause-asked t c = c.requires.ready.graph.asked
+
+pub condition-is_told-requires-clause-context : goal.condition-is_told-requires-clause-context
+condition-is_told-requires-clause-context t c = context_less c.args.w.now c.args.context.now (length c.args.rest.now)
+    (length c.args.rest.now + 393) (omega arith) c.requires.context
+
+pub condition-is_told-requires-clause-cycles : goal.condition-is_told-requires-clause-cycles
+condition-is_told-requires-clause-cycles t c = (c.args.graph.now.edges.now, c.requires.rest)
+
+pub condition-is_told-requires-clause-over : goal.condition-is_told-requires-clause-over
+condition-is_told-requires-clause-over t c = c.requires.cycle.over
+
+pub condition-conditions-requires-then-branch : goal.condition-conditions-requires-then-branch
+condition-conditions-requires-then-branch t c = (
+  omega arith,
+  (
+    c.requires.ready,
+    (
+      context_less c.args.w.now c.args.context.now (length c.args.rest.now + 392)
+          (length c.args.rest.now + 393) (omega arith) c.requires.context,
+      c.requires.rest,
+    ),
+  ),
+)
+
+pub condition-returns-then-branch : goal.condition-returns-then-branch
+condition-returns-then-branch t c = IfOk-weaker c.conditions.result _ _
+    (λ tree h. answer_wider c.args.w.now c.args.context.now (length c.args.rest.now + 392)
+    (length c.args.rest.now + 393) tree (omega arith) h) c.conditions.ensures
+
 pub condition-conditions-requires : goal.condition-conditions-requires
 condition-conditions-requires t c =
     let w = c.args.w.now in

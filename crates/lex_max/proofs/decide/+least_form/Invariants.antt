@@ -1,5 +1,5 @@
 use Rattle.std.proofs.Common.{length}
-use Rattle.lex_max.proofs.decide.+last_form.Given as goal
+use Rattle.lex_max.proofs.decide.+least_form.Given as goal
 
-abbrev pub decreases-last_form : goal.decreases-last_form
-decreases-last_form l = length l.forms.now
+abbrev pub decreases-least_form : goal.decreases-least_form
+decreases-least_form l = length l.forms.now

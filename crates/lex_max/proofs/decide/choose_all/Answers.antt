@@ -1,8 +1,10 @@
-use Rattle.std.proofs.Common.{◌≡◌, ◌∷◌, [], length, refl, sym, ap, ◌∙◌, arith, rules}
+use Rattle.std.proofs.Common.{◌≡◌, ◌∷◌, [], length, refl, sym, ap, ◌∙◌, subst, arith, rules}
 use Rattle.std.proofs.lemmas.List.{nil_from_length}
 use Rattle.std.proofs.lemmas.Result.{IfOk-weaker}
 use Rattle.lex_max.specs.Choices.{choices_left}
-use Rattle.lex_max.proofs.DecisionContexts.{choosing_start, few_tests, few_uppers, next_first, none_chosen}
+use Rattle.lex_max.specs.ChoiceSteps.{AreSmallForms}
+use Rattle.lex_max.proofs.ChoiceForms.{small_uppers}
+use Rattle.lex_max.proofs.DecisionContexts.{choosing_start, context_is, few_tests, few_uppers, next_first, none_chosen}
 use Rattle.lex_max.proofs.DecisionContexts.{some_upper}
 use Rattle.difference_graphs.proofs.ProblemBounds.{asked_fits}
 use Rattle.lex_max.proofs.ZeroLeaves.{answer_wider, context_less}
@@ -24,16 +26,31 @@ returns-in_default c =
     (λ tree h. answer_wider c.args.w.now c.args.context.now (length c.args.graph.now.edges.now) 392 tree
     (omega (arith, c.requires.ready.graph.graph.few)) h) c.confirm_all.ensures
 
-pub start-first-requires-clause-few : goal.start-first-requires-clause-few
-start-first-requires-clause-few c =
+pub start-requires-clause-context : goal.start-requires-clause-context
+start-requires-clause-context c =
+    context_is c.args.w.now 392 c.args.context.now c.requires.ready.graph.asked c.requires.context
+
+pub start-requires-clause-forms : goal.start-requires-clause-forms
+start-requires-clause-forms c =
+    let w = c.args.w.now in
+    let edges = c.args.graph.now.edges.now in
+    let bounds = c.args.graph.now.bounds.now in
+    let all : c.as_slice.result.now ≡ c.in-Some.forms.now ∷ c.in-Some.more.now = search rules in
+    let n = next_first w edges bounds c.requires.ready c.in-Some.forms.now c.in-Some.more.now
+    (sym all ∙ c.as_slice.ensures ∙ c.in_ok-all.ensures) in
+    subst (λ v. AreSmallForms v c.as_slice-forms.result.now) (sym c.requires.context.vars)
+    (small_uppers w edges bounds c.requires.ready 0 c.as_slice-forms.result.now (c.as_slice-forms.ensures ∙ n.forms))
+
+pub start-requires-clause-few : goal.start-requires-clause-few
+start-requires-clause-few c =
     let all : c.as_slice.result.now ≡ c.in-Some.forms.now ∷ c.in-Some.more.now = search rules in
     let n = next_first c.args.w.now c.args.graph.now.edges.now c.args.graph.now.bounds.now c.requires.ready
     c.in-Some.forms.now c.in-Some.more.now (sym all ∙ c.as_slice.ensures ∙ c.in_ok-all.ensures) in
     few_uppers c.args.w.now c.args.graph.now.edges.now c.args.graph.now.bounds.now c.requires.ready 0
     c.as_slice-forms.result.now (c.as_slice-forms.ensures ∙ n.forms)
 
-pub start-first-requires-clause-some : goal.start-first-requires-clause-some
-start-first-requires-clause-some c =
+pub start-requires-clause-some : goal.start-requires-clause-some
+start-requires-clause-some c =
     let all : c.as_slice.result.now ≡ c.in-Some.forms.now ∷ c.in-Some.more.now = search rules in
     let n = next_first c.args.w.now c.args.graph.now.edges.now c.args.graph.now.bounds.now c.requires.ready
     c.in-Some.forms.now c.in-Some.more.now (sym all ∙ c.as_slice.ensures ∙ c.in_ok-all.ensures) in
@@ -59,8 +76,8 @@ choose-requires-clause-choosing c =
     let n = next_first w edges bounds c.requires.ready c.in-Some.forms.now c.in-Some.more.now
     (sym all ∙ c.as_slice.ensures ∙ c.in_ok-all.ensures) in
     choosing_start w edges bounds c.requires.ready c.args.context.now 0 c.as_slice-forms.result.now c.in-Some.more.now
-    c.start-first.result [] refl n.inside
-    (c.as_slice-forms.ensures ∙ n.forms) n.others c.start-first.ensures.edge c.start-first.ensures.empty tt
+    c.in_ok-first.first [] refl n.inside
+    (c.as_slice-forms.ensures ∙ n.forms) n.others c.in_ok-first.ensures.edge c.in_ok-first.ensures.empty tt
 
 pub returns : goal.returns
 returns c =

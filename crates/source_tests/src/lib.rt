@@ -11,6 +11,8 @@ mod deep;
 #[cfg(test)]
 mod given;
 #[cfg(test)]
+mod large;
+#[cfg(test)]
 mod programs;
 #[cfg(test)]
 mod sweeps;

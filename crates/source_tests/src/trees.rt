@@ -34,7 +34,7 @@ struct Asked<'a> {
 // Which trees are made of a read: that of all writers, or for each writer and level the tree of the writes that differ from the
 // read by constants, or by strides.
 #[derive(Clone, Copy)]
-enum Kind {
+pub(crate) enum Kind {
     Joined,
     Differences,
     Strides,
@@ -49,7 +49,7 @@ fn count_of(count: usize) -> Result<u32, Fail> {
 }
 
 // The tree of a read in the class.
-fn joined(alloc: Global, nest: &Nest, statement: u32, read: u32) -> Result<Tree, Fail> {
+pub(crate) fn joined(alloc: Global, nest: &Nest, statement: u32, read: u32) -> Result<Tree, Fail> {
     if !in_stride_class(nest, statement, read) {
         return Err(Fail::from("the read is not in the class"));
     }
@@ -246,7 +246,12 @@ fn all_have_sources(
 }
 
 // Whether the trees of each read of a source give at each point what `sweep` finds there.
-fn all_are_right(alloc: Global, source: &[u8], n: i64, kind: Kind) -> Result<bool, Fail> {
+pub(crate) fn all_are_right(
+    alloc: Global,
+    source: &[u8],
+    n: i64,
+    kind: Kind,
+) -> Result<bool, Fail> {
     let nest = nest(alloc, source, n)?;
     if size(&nest).is_err() {
         return Err(Fail::from("the nest is large"));
@@ -466,7 +471,7 @@ fn a_test_that_its_form_decides_has_one_side(rt: HostRuntime) -> Result<(), Fail
     Ok(())
 }
 
-fn node_count(tree: &Tree) -> usize {
+pub(crate) fn node_count(tree: &Tree) -> usize {
     match tree {
         Tree::Test(_, above, below) => node_count(above.get())
             .saturating_add(node_count(below.get()))

@@ -109,8 +109,8 @@ condition-is_told-requires-clause-cycles t c = (c.args.graph.now.edges.now, c.re
 pub condition-is_told-requires-clause-over : goal.condition-is_told-requires-clause-over
 condition-is_told-requires-clause-over t c = c.requires.cycle.over
 
-pub condition-conditions-requires-then-branch : goal.condition-conditions-requires-then-branch
-condition-conditions-requires-then-branch t c = (
+pub condition-conditions-requires : goal.condition-conditions-requires
+condition-conditions-requires t c = (
   omega arith,
   (
     c.requires.ready,
@@ -127,8 +127,8 @@ condition-returns-then-branch t c = IfOk-weaker c.conditions.result _ _
     (λ tree h. answer_wider c.args.w.now c.args.context.now (length c.args.rest.now + 392)
     (length c.args.rest.now + 393) tree (omega arith) h) c.conditions.ensures
 
-pub condition-conditions-requires : goal.condition-conditions-requires
-condition-conditions-requires t c =
+pub condition-conditions-requires-2 : goal.condition-conditions-requires-2
+condition-conditions-requires-2 t c =
     let w = c.args.w.now in
     let context = c.args.context.now in
     let cycle = c.args.cycle.now in

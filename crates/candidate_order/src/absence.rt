@@ -192,7 +192,7 @@ fn by_out(
     by_round(context, out, number, bound, back, back_number)
 }
 
-// By one of these edges from 0 and this edge back to it. The first one has this number.
+// By one of these edges from 0, the last one first, and this edge back to it. The first one has this number.
 fn by_outs(
     context: &System,
     bounds: &Bounds,
@@ -212,10 +212,10 @@ fn by_outs(
     let Some((out, outs)) = outs.split_first() else {
         return Ok(None);
     };
-    let found = by_out(context, bounds, zero, out, number, back, back_number)?;
+    let found = by_outs(context, bounds, zero, outs, number + 1, back, back_number)?;
     match found {
         Some(terms) => Ok(Some(terms)),
-        None => by_outs(context, bounds, zero, outs, number + 1, back, back_number),
+        None => by_out(context, bounds, zero, out, number, back, back_number),
     }
 }
 
@@ -270,8 +270,8 @@ fn by_rounds(
     }
 }
 
-// By one cycle that uses order rows behind the candidate's own. Mostly it is a row of the candidate and the last order row, that the
-// place stands before the point, so these are looked at first.
+// By one cycle that uses order rows behind the candidate's own. Mostly it is one of a subscript's rows, which stand behind those of the
+// domain, and the last order row, so these are looked at first.
 fn by_orders(
     context: &System,
     candidate: &Candidate,

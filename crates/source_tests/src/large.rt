@@ -132,3 +132,23 @@ fn large_trees_are_made_and_are_right(rt: HostRuntime) -> Result<(), Fail> {
     }
     Ok(())
 }
+
+// Twelve writers, each beyond a diagonal and beyond a plane, none of them within another.
+static BEYOND: Pattern = Pattern {
+    head: b"param N; out y; var a[N][N][N]; for (i = 0; i < N; i++) for (j = 0; j < N; j++) \
+        for (k = 0; k < N; k++) { ",
+    each: b"if (i - j > # && k >= 12 - #) a[i][j][k] = #; ",
+    count: 12,
+    tail: b"y = a[i][j][k]; }",
+};
+
+#[test]
+fn a_condition_that_the_others_tell_is_not_asked(rt: HostRuntime) -> Result<(), Fail> {
+    let text = text_of(rt.alloc(), &BEYOND)?;
+    let nest = nest(rt.alloc(), text.as_slice(), 16)?;
+    let tree = joined(rt.alloc(), &nest, 12, 0)?;
+    let count = node_count(&tree);
+    drop(tree);
+    assert!(rt; count < 60);
+    Ok(())
+}

@@ -8,7 +8,7 @@ pub mod Systems
 pub mod TestNodes
 mod MadeRows
 mod WriteSystems
-mod SystemConversion
+pub mod SystemConversion
 mod Subscript
 mod NoWrites
 mod EuclidSteps
@@ -28,7 +28,7 @@ mod LastCells
 mod SourceCuts
 mod QuotientReach
 mod PlaceProofs
-mod LeafConversion
+pub mod LeafConversion
 mod QuotientValues
 mod TreeValues
 mod CandidatePromise

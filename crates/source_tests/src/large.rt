@@ -25,12 +25,12 @@ struct Large {
     small: i64,
 }
 
-// Adds what stands for a number below 100.
+// Adds what stands for a number, of which two digits are written.
 fn push_each(text: &mut Vec<u8>, each: &[u8], number: u32) -> Result<(), AllocError> {
     for byte in each {
         if *byte == b'#' {
-            text.push(b'0'.wrapping_add((number / 10) as u8))?;
-            text.push(b'0'.wrapping_add((number % 10) as u8))?;
+            text.push(b'0' + (number / 10 % 10) as u8)?;
+            text.push(b'0' + (number % 10) as u8)?;
         } else {
             text.push(*byte)?;
         }

@@ -28,14 +28,11 @@ module _ (net : Net) (schedule : List ℕ) (p : ℕ) where
   pub nothing_left : slice_get (net.script p) (cut_after opening schedule p) ≡ None → left_after net schedule p ≡ []
   nothing_left is = none_left (net.script p) (cut_after opening schedule p) is
 
-  -- no Put is left before the next Get or Fire
-  pub no_put_at_get : (c slot : ℕ) → slice_get (net.script p) (cut_after opening schedule p) ≡ Some (Get c slot)
-      → put_length (left_after net schedule p) ≡ 0
-  no_put_at_get c slot is = ap put_length (drop-some (net.script p) (cut_after opening schedule p) (Get c slot) is)
-
-  pub no_put_at_fire : (refs : List Ref) → slice_get (net.script p) (cut_after opening schedule p) ≡ Some (Fire refs)
-      → put_length (left_after net schedule p) ≡ 0
-  no_put_at_fire refs is = ap put_length (drop-some (net.script p) (cut_after opening schedule p) (Fire refs) is)
+  -- no Put is left before a next event that is none
+  pub no_put_there : (e : Event) → slice_get (net.script p) (cut_after opening schedule p) ≡ Some e
+      → ((events : List Event) → put_length (e ∷ events) ≡ 0) → put_length (left_after net schedule p) ≡ 0
+  no_put_there e is none =
+      ap put_length (drop-some (net.script p) (cut_after opening schedule p) e is) ∙ none _
 
 -- One event more
 

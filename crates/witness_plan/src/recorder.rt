@@ -73,8 +73,8 @@ impl Recorder {
         }
     }
 
-    // The event that a process makes next, or `None` exactly at its script's end.
-    fn peek_event(&self, network: &Network, process: u32) -> Option<&Event>
+    /// The event that a process makes next, or `None` exactly at its script's end.
+    pub(crate) fn next_event(&self, network: &Network, process: u32) -> Option<&Event>
         requires recorder { IsRecord (net_of network.now) self.now }
         requires process { process < length network.now.processes }
         ensures { option_copied result
@@ -84,17 +84,6 @@ impl Recorder {
         self.progress.next_event(network, process)
     }
 
-    /// The event that a process makes next, or `None` exactly at its script's end.
-    pub(crate) fn next_event(&self, network: &Network, process: u32) -> Option<Event>
-        requires recorder { IsRecord (net_of network.now) self.now }
-        requires process { process < length network.now.processes }
-        ensures { result
-            ≡ slice_get ((net_of network.now).script process)
-            (cut_after opening self.now.schedule process) }
-    {
-        self.peek_event(network, process).copied()
-    }
-
     // Whether a process's next event could come if no channel were ever full.
     fn is_ready(&self, network: &Network, process: u32) -> bool
         requires recorder { IsRecord (net_of network.now) self.now }
@@ -102,7 +91,7 @@ impl Recorder {
         ensures { result
             ≡ is_ready (net_of network.now) (cut_after opening self.now.schedule) process }
     {
-        match self.peek_event(network, process) {
+        match self.next_event(network, process) {
             Some(Event::Get { channel, .. }) => self.progress.has_token(network, *channel),
             Some(Event::Fire { .. } | Event::Put { .. }) => true,
             None => false,
@@ -126,26 +115,19 @@ impl Recorder {
         None
     }
 
-    /// Lets a process make its next event, and tells which event that is.
-    pub(crate) fn make_event(
-        &mut self,
-        network: &Network,
-        process: u32,
-    ) -> Result<Event, AllocError>
+    /// Lets a process make its next event.
+    pub(crate) fn make_event(&mut self, network: &Network, process: u32) -> Result<(), AllocError>
         requires recorder { IsRecord (net_of network.now) self.old }
         requires process { process < length network.now.processes }
         requires left { cut_after opening self.old.schedule process
             < length ((net_of network.now).script process) }
-        ensures event { IfOk result
-            (λ event. slice_get ((net_of network.now).script process)
-            (cut_after opening self.old.schedule process) ≡ Some event) }
         ensures schedule { OnOk result (self.new.schedule ≡ self.old.schedule ++ process ∷ []) }
         ensures recorder { OnOk result (IsRecord (net_of network.now) self.new) }
     {
         self.schedule.push(process)?;
         let event = self.progress.make_event(network, process);
         note_event(&mut self.greatest, network, &self.progress, &event);
-        Ok(event)
+        Ok(())
     }
 }
 

@@ -68,8 +68,11 @@ fn downward(alloc: Global, network: &Network) -> Result<Witness, AllocError>
     let mut recorder = Recorder::new(alloc, network)?;
     let mut below = network.processes.len() as u32;
     while let Some(process) = recorder.highest_ready(network, below) {
-        let event = recorder.make_event(network, process)?;
-        below = bound_after(network, process, &event);
+        let Some(event) = recorder.next_event(network, process) else {
+            unreachable!()
+        };
+        below = bound_after(network, process, event);
+        recorder.make_event(network, process)?;
     }
     Ok(recorder.into_witness())
 }

@@ -1,4 +1,7 @@
-ghost use Rattle.std.specs.Prelude.{◌≡◌, ◌<◌, ◌++◌, length, replicate, OnOk};
+ghost use Rattle.std.specs.Prelude.{◌≡◌, ◌<◌, ◌∷◌, ◌++◌, ℕ, List, length, replicate, IsFalse, IsTrue, OnOk};
+ghost use Rattle.net_core.specs.declared.network.Event.{Event};
+ghost use Rattle.net_core.specs.declared.network.Event.TheVariants.{Fire, Put};
+ghost use Rattle.net_core.specs.declared.refs.Ref.{Ref};
 ghost use Rattle.net_core.specs.Machine.{net_of};
 ghost use Rattle.witness_plan.specs.Records.{IsRecord, left_after};
 ghost use Rattle.witness_plan.specs.Steps.{point_length, put_length};
@@ -6,6 +9,20 @@ ghost use Rattle.witness_plan.specs.Steps.{point_length, put_length};
 use crate::recorder::Recorder;
 use net_core::{Event, Network};
 use std::alloc::AllocError;
+
+fn is_fire(event: &Event) -> bool
+    ensures fire { IsTrue result → (refs : List Ref) × (event.now ≡ Fire refs) }
+    ensures other { IsFalse result → (refs : List Ref) → event.now ≡ Fire refs → ⊥ }
+{
+    matches!(event, Event::Fire { .. })
+}
+
+fn is_put(event: &Event) -> bool
+    ensures put { IsTrue result → (channel : ℕ) × (event.now ≡ Put channel) }
+    ensures other { IsFalse result → (events : List Event) → put_length (event.now ∷ events) ≡ 0 }
+{
+    matches!(event, Event::Put { .. })
+}
 
 // Lets a process make all its events up to a Fire.
 fn make_fire(recorder: &mut Recorder, network: &Network, process: u32) -> Result<(), AllocError>
@@ -21,8 +38,9 @@ fn make_fire(recorder: &mut Recorder, network: &Network, process: u32) -> Result
     ensures recorder { OnOk result (IsRecord (net_of network.now) recorder.new) }
 {
     while let Some(event) = recorder.next_event(network, process) {
+        let is_last = is_fire(event);
         recorder.make_event(network, process)?;
-        if let Event::Fire { .. } = event {
+        if is_last {
             return Ok(());
         }
     }
@@ -41,10 +59,10 @@ fn make_puts(recorder: &mut Recorder, network: &Network, process: u32) -> Result
     ensures recorder { OnOk result (IsRecord (net_of network.now) recorder.new) }
 {
     while let Some(event) = recorder.next_event(network, process) {
-        match event {
-            Event::Put { .. } => recorder.make_event(network, process)?,
-            Event::Get { .. } | Event::Fire { .. } => return Ok(()),
-        };
+        if !is_put(event) {
+            return Ok(());
+        }
+        recorder.make_event(network, process)?;
     }
     Ok(())
 }

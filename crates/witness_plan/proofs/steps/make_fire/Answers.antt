@@ -10,13 +10,14 @@ pub make_event-requires-clause-left : goal.make_event-requires-clause-left
 make_event-requires-clause-left c =
     let net = net_of c.args.network.now in
     slice_get_within (net.script c.args.process)
-    (cut_after opening c.loop-event.recorder.schedule c.args.process) c.in-Some.event (sym c.in-Some.ensures)
+    (cut_after opening c.loop-event.recorder.schedule c.args.process) c.in-Some.event.now (sym c.in-Some.ensures)
 
-pub returns-in-Fire-clause-schedule : goal.returns-in-Fire-clause-schedule
-returns-in-Fire-clause-schedule c =
+pub returns-then-is_last-clause-schedule : goal.returns-then-is_last-clause-schedule
+returns-then-is_last-clause-schedule c =
     let net = net_of c.args.network.now in
+    let fire = c.is_fire-is_last.ensures.fire c.if-is_last.true in
     fire_made net c.loop-event.recorder.schedule c.make_event.new.self.schedule c.args.process
-    c.in_ok-make_event.ensures.schedule c.in-Fire.refs (sym c.in-Some.ensures ∙ ap Some c.in-Fire.is)
+    c.in_ok-make_event.ensures.schedule fire.0 (sym c.in-Some.ensures ∙ ap Some fire.1)
     ∙ c.loop-event.invariant.made
 
 pub loop-event-smaller : goal.loop-event-smaller
@@ -25,7 +26,7 @@ loop-event-smaller c =
     omega (
       arith,
       ap length (left_next net c.loop-event.recorder.schedule c.make_event.new.self.schedule c.args.process
-          c.in_ok-make_event.ensures.schedule c.in-Some.event (sym c.in-Some.ensures)),
+          c.in_ok-make_event.ensures.schedule c.in-Some.event.now (sym c.in-Some.ensures)),
     )
 
 pub loop-event-preserved : goal.loop-event-preserved
@@ -34,7 +35,8 @@ loop-event-preserved c =
     record {
       recorder = c.in_ok-make_event.ensures.recorder;
       made = event_made net c.loop-event.recorder.schedule c.make_event.new.self.schedule c.args.process
-          c.in_ok-make_event.ensures.schedule c.in-Some.event (sym c.in-Some.ensures) c.in_default-event.not-Fire
+          c.in_ok-make_event.ensures.schedule c.in-Some.event.now (sym c.in-Some.ensures)
+          (c.is_fire-is_last.ensures.other c.if-is_last.false)
           ∙ c.loop-event.invariant.made;
     }
 

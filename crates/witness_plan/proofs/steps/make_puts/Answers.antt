@@ -1,17 +1,17 @@
-use Rattle.std.proofs.Common.{◌≡◌, ◌++◌, Some, ap, sym, ◌∙◌, length, replicate, arith, append-nil, inl, inr}
+use Rattle.std.proofs.Common.{◌++◌, Some, ap, sym, ◌∙◌, length, replicate, arith, append-nil}
 use Rattle.std.proofs.lemmas.Option.{slice_get_within}
 use Rattle.net_core.specs.Cuts.{cut_after, opening}
 use Rattle.net_core.specs.Machine.{net_of}
 use Rattle.witness_plan.specs.Records.{left_after}
 use Rattle.witness_plan.specs.Steps.{put_length}
-use Rattle.witness_plan.proofs.LeftEvents.{left_next, no_put_at_fire, no_put_at_get, nothing_left, put_made}
+use Rattle.witness_plan.proofs.LeftEvents.{left_next, no_put_there, nothing_left, put_made}
 use Rattle.witness_plan.proofs.steps.make_puts.Goals as goal
 
 pub make_event-requires-clause-left : goal.make_event-requires-clause-left
 make_event-requires-clause-left c =
     let net = net_of c.args.network.now in
     slice_get_within (net.script c.args.process)
-    (cut_after opening c.loop-event.recorder.schedule c.args.process) c.in-Some.event (sym c.in-Some.ensures)
+    (cut_after opening c.loop-event.recorder.schedule c.args.process) c.in-Some.event.now (sym c.in-Some.ensures)
 
 pub loop-event-smaller : goal.loop-event-smaller
 loop-event-smaller c =
@@ -19,16 +19,17 @@ loop-event-smaller c =
     omega (
       arith,
       ap length (left_next net c.loop-event.recorder.schedule c.make_event.new.self.schedule c.args.process
-          c.in_ok-make_event-in-Put.ensures.schedule c.in-Some.event (sym c.in-Some.ensures)),
+          c.in_ok-make_event.ensures.schedule c.in-Some.event.now (sym c.in-Some.ensures)),
     )
 
 pub loop-event-preserved : goal.loop-event-preserved
 loop-event-preserved c =
     let net = net_of c.args.network.now in
+    let put = c.is_put.ensures.put c.if-not-is_put.false in
     record {
-      recorder = c.in_ok-make_event-in-Put.ensures.recorder;
+      recorder = c.in_ok-make_event.ensures.recorder;
       made = put_made net c.loop-event.recorder.schedule c.make_event.new.self.schedule c.args.process
-          c.in_ok-make_event-in-Put.ensures.schedule c.in-Put.channel (sym c.in-Some.ensures ∙ ap Some c.in-Put.is)
+          c.in_ok-make_event.ensures.schedule put.0 (sym c.in-Some.ensures ∙ ap Some put.1)
           ∙ c.loop-event.invariant.made;
     }
 
@@ -40,17 +41,11 @@ returns-clause-schedule c =
     let none = nothing_left net s p (sym c.in_default.ensures) in
     sym (append-nil s) ∙ sym (ap (λ events. s ++ replicate (put_length events) p) none) ∙ c.loop-event.invariant.made
 
-pub returns-in-Get : goal.returns-in-Get
-returns-in-Get c =
+pub returns-then-not-is_put-clause-schedule : goal.returns-then-not-is_put-clause-schedule
+returns-then-not-is_put-clause-schedule c =
     let net = net_of c.args.network.now in
     let p = c.args.process in
     let s = c.loop-event.recorder.schedule in
-    let none : put_length (left_after net s p) ≡ 0 =
-    elim c.in-Get.is [
-      | inl get ↦ no_put_at_get net s p get.0 get.1 (sym c.in-Some.ensures ∙ ap Some get.2)
-      | inr fire ↦ no_put_at_fire net s p fire.0 (sym c.in-Some.ensures ∙ ap Some fire.1)
-    ] in
-    record {
-      schedule = sym (append-nil s) ∙ sym (ap (λ k. s ++ replicate k p) none) ∙ c.loop-event.invariant.made;
-      recorder = c.loop-event.invariant.recorder;
-    }
+    let none = no_put_there net s p c.in-Some.event.now (sym c.in-Some.ensures)
+    (c.is_put.ensures.other c.if-not-is_put.true) in
+    sym (append-nil s) ∙ sym (ap (λ k. s ++ replicate k p) none) ∙ c.loop-event.invariant.made

@@ -26,11 +26,6 @@ note_event-requires-clause-there c =
     put_there (net_of c.args.network.now) c.requires.recorder.progress.wired c.args.process
     (cut_of c.args.self.now.progress c.args.process) c.make_event-event.result c.make_event-event.ensures.event
 
-pub returns-clause-event : goal.returns-clause-event
-returns-clause-event c =
-    sym (ap (λ (k : Cut). slice_get ((net_of c.args.network.now).script c.args.process) (k c.args.process))
-    c.requires.recorder.cut) ∙ c.make_event-event.ensures.event
-
 pub returns-clause-recorder : goal.returns-clause-recorder
 returns-clause-recorder c =
     let n = net_of c.args.network.now in
@@ -39,7 +34,8 @@ returns-clause-recorder c =
     let e = c.make_event-event.result in
     let new : Cut = cut_of c.make_event-event.new.self in
     let grown = c.in_ok-push.ensures.ok in
-    let event = returns-clause-event c in
+    let event = sym (ap (λ (k : Cut). slice_get (n.script p) (k p)) c.requires.recorder.cut)
+    ∙ c.make_event-event.ensures.event in
     let at = cut_then self.schedule c.push.new.self p (cut_of self.progress) new grown c.requires.recorder.cut
     c.make_event-event.ensures.cut in
     record {

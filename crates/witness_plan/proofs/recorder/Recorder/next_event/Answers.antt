@@ -2,7 +2,7 @@ use Rattle.std.proofs.Common.{ap, ◌∙◌}
 use Rattle.std.specs.Prelude.{slice_get}
 use Rattle.net_core.specs.Cuts.{Cut}
 use Rattle.net_core.specs.Machine.{net_of}
-use Rattle.witness_plan.proofs.recorder.Recorder.peek_event.Goals as goal
+use Rattle.witness_plan.proofs.recorder.Recorder.next_event.Goals as goal
 
 pub returns : goal.returns
 returns c =

@@ -1,5 +1,10 @@
 -- Parts of scripts and of the schedule that may nest too deep are read, or refused at the first repeat that is too deep.
--- It goes as for trees: each part is unrolled once, and then by the levels that are left.
+--
+-- A part is unrolled once, into its first line and what stands behind that (`PartUnrolled`): behind an item's line nothing,
+-- behind that of a repeat its body, a level deeper. By induction over the levels that are left, which with the part's depth
+-- are always 513 (`part_answers`): where some are left the line isn't too deep and what is behind it answers, and where
+-- none is left a repeat is refused at its own line. How deep its repeats may go doesn't matter: at each level they are
+-- unrolled anew. Of parts whose numbers are out of range nothing is said.
 use Rattle.std.proofs.Common.{◌≡◌, inl, inr, ℕ, zero, suc, ◌+◌, ◌≤◌, true, false, List, [], ◌∷◌, ◌++◌, All}
 use Rattle.std.proofs.Common.{Result, Ok, codes, decimal, length, append-nil, refl, sym, subst, ◌∙◌, arith}
 use Rattle.std.specs.Prelude.{bytes_eq}

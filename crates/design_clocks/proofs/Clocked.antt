@@ -24,8 +24,8 @@ use Rattle.net_core.proofs.Positions.{put_fired, run_counted, start_counted}
 use Rattle.clock_sim.specs.Clocks.{ClockedRunEnds, after_clocks, clocked_run, clocks, enabled_processes}
 use Rattle.clock_sim.proofs.ClockRuns.{after_append, none_from_stuck}
 use Rattle.design_clocks.specs.Registers.{Controls, Design, after_edges, after_stalls, edge, event_at, event_if, fire_at}
-use Rattle.design_clocks.specs.Registers.{fires_of, offered, offers, steps, steps_at, unstalled}
-use Rattle.design_clocks.specs.Clocked.{GiveScripts, RunsByClock, TakesClocks, design_of, given_out}
+use Rattle.design_clocks.specs.Registers.{fires_of, token_for, offers, steps, steps_at, no_stalls}
+use Rattle.design_clocks.specs.Clocked.{GiveScripts, RunsByClock, TakesClocks, design_of, results_of}
 use Rattle.design_clocks.proofs.Edges.{edge_alike, event_alike, fire_alike, who_steps}
 use Rattle.design_clocks.proofs.OneClock.{clock_at_once, does, made, moved}
 
@@ -37,10 +37,10 @@ run_of n rule may (suc k) =
     ++ filter (who_steps n (may k) (reached n rule (run_of n rule may k))) (range_with_len 0 n.processes)
 
 -- where nobody is held back this is the clocked run
-unstalled_run : {T : Type 0} (n : Net) (rule : Rule T) (k : ℕ) → run_of n rule unstalled k ≡ clocked_run n rule k
-unstalled_run n rule zero = refl
-unstalled_run n rule (suc k) =
-    ap (λ (run : List ℕ). run ++ enabled_processes n (reached n rule run)) (unstalled_run n rule k)
+run_without_stalls : {T : Type 0} (n : Net) (rule : Rule T) (k : ℕ) → run_of n rule no_stalls k ≡ clocked_run n rule k
+run_without_stalls n rule zero = refl
+run_without_stalls n rule (suc k) =
+    ap (λ (run : List ℕ). run ++ enabled_processes n (reached n rule run)) (run_without_stalls n rule k)
 
 module _ {T : Type 0} (n : Net) (controls : Controls) (rule : Rule T) (wired : IsWired n)
     (give : GiveScripts n controls) (may : ℕ → ℕ → Bool) where
@@ -76,13 +76,13 @@ module _ {T : Type 0} (n : Net) (controls : Controls) (rule : Rule T) (wired : I
     (give : GiveScripts n controls) where
   pub stands_for : (k : ℕ) → after_edges n controls rule k ≡ design_of controls (after_clocks n rule k)
   stands_for k =
-      stands_for_run n controls rule wired give unstalled k
-      ∙ ap (λ (run : List ℕ). design_of controls (reached n rule run)) (unstalled_run n rule k)
+      stands_for_run n controls rule wired give no_stalls k
+      ∙ ap (λ (run : List ℕ). design_of controls (reached n rule run)) (run_without_stalls n rule k)
 
-  pub fires_alike : (k p : ℕ) → fires_of n controls rule unstalled p k ≡ ((after_clocks n rule k).local p).kept
+  pub fires_alike : (k p : ℕ) → fires_of n controls rule no_stalls p k ≡ ((after_clocks n rule k).local p).kept
   fires_alike k p =
-      fires_by_run n controls rule wired give unstalled k p
-      ∙ ap (λ (run : List ℕ). ((reached n rule run).local p).kept) (unstalled_run n rule k)
+      fires_by_run n controls rule wired give no_stalls k p
+      ∙ ap (λ (run : List ℕ). ((reached n rule run).local p).kept) (run_without_stalls n rule k)
 
   -- what a node reads, and whether it steps
   pub event_after : (k p : ℕ) → event_at controls (after_edges n controls rule k) p ≡ next n (after_clocks n rule k) p
@@ -119,7 +119,7 @@ has_fired n wired p k c (Some e) is puts = put_fired n wired p k c e is puts
 module _ {T : Type 0} (n : Net) (controls : Controls) (rule : Rule T) (wired : IsWired n)
     (give : GiveScripts n controls) (runs : (k : ℕ) → IsRun n rule (start n) (clocked_run n rule k)) where
   is_defined : (k c : ℕ) → offers n (event_at controls (after_edges n controls rule k)) c ≡ true
-      → (x : T) × (offered n (after_edges n controls rule k) c ≡ Some x)
+      → (x : T) × (token_for n (after_edges n controls rule k) c ≡ Some x)
   is_defined k c puts =
       let s = after_clocks n rule k in
       let p = n.writer c in
@@ -127,7 +127,7 @@ module _ {T : Type 0} (n : Net) (controls : Controls) (rule : Rule T) (wired : I
       let stands = ap (does (is_put c)) (sym (event_after n controls rule wired give k p)) ∙ puts in
       let fired = has_fired n wired p (s.local p).position c (next n s p) refl stands in
       let last = some_last (s.local p).kept (omega (arith, counted.kept p)) in
-      (last.0, ap (λ (d : Design T). offered n d c) (stands_for n controls rule wired give k) ∙ last.1)
+      (last.0, ap (λ (d : Design T). token_for n d c) (stands_for n controls rule wired give k) ∙ last.1)
 
   pub runs_by_clock : RunsByClock n controls rule
   runs_by_clock = record {
@@ -226,7 +226,7 @@ module _ {T : Type 0} (n : Net) (controls : Controls) (rule : Rule T) (wired : I
 
 -- what the sinks give out is what they keep
 pub outputs_alike : (nest : Nest) (n : Net) (controls : Controls) (rule : Rule ℤ) → IsWired n → GiveScripts n controls
-    → (k : ℕ) → given_out nest n controls rule unstalled k ≡ sink_lists nest (after_clocks n rule k)
+    → (k : ℕ) → results_of nest n controls rule no_stalls k ≡ sink_lists nest (after_clocks n rule k)
 outputs_alike nest n controls rule wired give k =
     ap (λ (kept : ℕ → List ℤ).
     sink_lists_from kept (length nest.statements - length (output_numbers nest.arrays)) nest.arrays)

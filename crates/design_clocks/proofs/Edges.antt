@@ -9,6 +9,7 @@ use Rattle.std.proofs.Common.{◌++◌, length, drop, if◌then◌else◌, optio
 use Rattle.std.proofs.Common.{append-nil, eqb-true, length-append}
 use Rattle.std.proofs.lemmas.Bool.{cases_Bool}
 use mathlib.Core.Path.{fun_ext}
+use Rattle.plain_data.proofs.Tests.{and-true}
 use Rattle.net_core.specs.declared.network.Event.{Event}
 use Rattle.net_core.specs.declared.network.Event.TheVariants.{Get, Fire, Put}
 use Rattle.net_core.specs.Machine.{Net, State, Rule, next, can_come, enabled, front, last_of}
@@ -32,10 +33,6 @@ last_alike (x ∷ (y ∷ kept)) = last_alike (y ∷ kept)
 
 -- Tests of an event
 
-and_true : (b : Bool) → b && true ≡ b
-and_true true = refl
-and_true false = refl
-
 and_false : (b : Bool) → b && false ≡ false
 and_false true = refl
 and_false false = refl
@@ -43,7 +40,7 @@ and_false false = refl
 -- an event that is made where this is true passes a test where both are
 made_passes : (test : Event → Bool) (e : Event) (b : Bool)
     → test e && b ≡ does test (if b then Some e else None)
-made_passes test e true = and_true (test e)
+made_passes test e true = and-true (test e)
 made_passes test e false = and_false (test e)
 
 -- what holds of a number holds of the same one

@@ -12,9 +12,9 @@ use Rattle.std.proofs.Common.{length-append, length-set}
 use Rattle.std.proofs.lemmas.Bool.{and_parts, cases_eq, cases_lt, le-ltb}
 use Rattle.std.proofs.lemmas.List.{length-replicate}
 use Rattle.net_core.specs.Machine.{Net, Rule}
-use Rattle.plain_data.proofs.Lists.{slice_get-append_cons}
-use Rattle.design_clocks.specs.Registers.{Controls, after_edges, asks, event_at, fifo_after, offered, offers}
-use Rattle.design_clocks.specs.Rings.{Holds, Ring, empty_ring, following, place_of, ring_after, ring_after_edges, ring_moved}
+use Rattle.plain_data.proofs.Lists.{slice_get-append_cons, slice_get-append_left}
+use Rattle.design_clocks.specs.Registers.{Controls, after_edges, asks, event_at, fifo_after, token_for, offers}
+use Rattle.design_clocks.specs.Rings.{Holds, Ring, empty_ring, next_place, place_of, ring_after, ring_after_edges, ring_step}
 
 -- Places
 
@@ -27,44 +27,44 @@ module _ (capacity : ℕ) where
   place_high oldest i high =
       ap (λ (b : Bool). if b then oldest + i else oldest + i - capacity) (le-ltb (oldest + i) capacity high)
 
-  behind_last : (at : ℕ) → at + 1 ≡ capacity → following capacity at ≡ 0
+  behind_last : (at : ℕ) → at + 1 ≡ capacity → next_place capacity at ≡ 0
   behind_last at last = ap (λ (b : Bool). if b then 0 else at + 1) (eq-eqb (at + 1) capacity last)
 
-  behind_other : (at : ℕ) → (at + 1 ≡ capacity → ⊥) → following capacity at ≡ at + 1
+  behind_other : (at : ℕ) → (at + 1 ≡ capacity → ⊥) → next_place capacity at ≡ at + 1
   behind_other at other = ap (λ (b : Bool). if b then 0 else at + 1) (ne_eqb (at + 1) capacity other)
 
-  following_within : (at : ℕ) → at < capacity → following capacity at < capacity
-  following_within at within =
+  next_place_within : (at : ℕ) → at < capacity → next_place capacity at < capacity
+  next_place_within at within =
       elim (cases_eq (at + 1) capacity) [
         | inl last ↦ omega (arith, behind_last at last)
         | inr other ↦ omega (arith, behind_other at other)
       ]
 
   -- behind a token's place is that of the next one
-  next_place : (oldest i j : ℕ) → oldest < capacity → i < capacity → j ≡ i + 1
-      → following capacity (place_of capacity oldest i) ≡ place_of capacity oldest j
-  next_place oldest i j within few next =
+  place_behind : (oldest i j : ℕ) → oldest < capacity → i < capacity → j ≡ i + 1
+      → next_place capacity (place_of capacity oldest i) ≡ place_of capacity oldest j
+  place_behind oldest i j within few next =
       elim (cases_lt (oldest + i) capacity) [
         | inl low ↦
             elim (cases_eq (oldest + i + 1) capacity) [
               | inl last ↦
-                  ap (following capacity) (place_low oldest i low) ∙ behind_last (oldest + i) last
+                  ap (next_place capacity) (place_low oldest i low) ∙ behind_last (oldest + i) last
                   ∙ sym (let round : capacity ≤ oldest + j = omega arith in
                   omega (arith, place_high oldest j round))
               | inr other ↦
-                  ap (following capacity) (place_low oldest i low) ∙ behind_other (oldest + i) other
+                  ap (next_place capacity) (place_low oldest i low) ∙ behind_other (oldest + i) other
                   ∙ sym (let more : oldest + j < capacity = omega arith in omega (arith, place_low oldest j more))
             ]
         | inr high ↦
             let other : oldest + i - capacity + 1 ≡ capacity → ⊥ = λ e. omega arith in
             let round : capacity ≤ oldest + j = omega arith in
-            ap (following capacity) (place_high oldest i high) ∙ behind_other (oldest + i - capacity) other
+            ap (next_place capacity) (place_high oldest i high) ∙ behind_other (oldest + i - capacity) other
             ∙ sym (omega (arith, place_high oldest j round))
       ]
 
   -- from the next place on each token has the number before
   shift : (oldest i j : ℕ) → oldest < capacity → i < capacity → j ≡ i + 1
-      → place_of capacity (following capacity oldest) i ≡ place_of capacity oldest j
+      → place_of capacity (next_place capacity oldest) i ≡ place_of capacity oldest j
   shift oldest i j within few next =
       elim (cases_eq (oldest + 1) capacity) [
         | inl last ↦
@@ -122,23 +122,18 @@ set_other (x ∷ xs) zero (suc j) y other = refl
 set_other (x ∷ xs) (suc i) zero y other = refl
 set_other (x ∷ xs) (suc i) (suc j) y other = set_other xs i j y (λ e. other (ap suc e))
 
-get_before : {X : Type 0} (xs ys : List X) (i : ℕ) → i < length xs → slice_get (xs ++ ys) i ≡ slice_get xs i
-get_before [] ys i lt = absurd (omega arith)
-get_before (x ∷ xs) ys zero lt = refl
-get_before (x ∷ xs) ys (suc i) lt = get_before xs ys i (omega arith)
-
 -- An edge
 
 module _ {T : Type 0} (capacity : ℕ) where
   taken : (ring : Ring T) (token : Option T) (x : T) (queue : List T) → Holds capacity ring (x ∷ queue)
-      → Holds capacity (ring_moved capacity false true token ring) queue
+      → Holds capacity (ring_step capacity false true token ring) queue
   taken ring token x queue h =
       let fits : suc (length queue) ≤ capacity = h.fits in
       record {
         places = h.places;
         count = omega (arith, h.count);
         fits = omega arith;
-        oldest = following_within capacity ring.oldest h.oldest;
+        oldest = next_place_within capacity ring.oldest h.oldest;
         free = h.free
             ∙ sym (shift capacity ring.oldest (length queue) (suc (length queue)) h.oldest (omega arith) (omega arith));
         tokens = λ i lt.
@@ -147,7 +142,7 @@ module _ {T : Type 0} (capacity : ℕ) where
       }
 
   given : (ring : Ring T) (x : T) (queue : List T) → Holds capacity ring queue → length queue < capacity
-      → Holds capacity (ring_moved capacity true false (Some x) ring) (queue ++ x ∷ [])
+      → Holds capacity (ring_step capacity true false (Some x) ring) (queue ++ x ∷ [])
   given ring x queue h room =
       let long : length (queue ++ x ∷ []) ≡ length queue + 1 = length-append queue (x ∷ []) in
       let free_there : ring.free < length ring.places =
@@ -157,8 +152,8 @@ module _ {T : Type 0} (capacity : ℕ) where
         count = omega (arith, h.count);
         fits = omega arith;
         oldest = h.oldest;
-        free = ap (following capacity) h.free
-            ∙ next_place capacity ring.oldest (length queue) (length (queue ++ x ∷ [])) h.oldest room long;
+        free = ap (next_place capacity) h.free
+            ∙ place_behind capacity ring.oldest (length queue) (length (queue ++ x ∷ [])) h.oldest room long;
         tokens = λ i lt.
             elim (cases_eq i (length queue)) [
               | inl last ↦
@@ -172,37 +167,37 @@ module _ {T : Type 0} (capacity : ℕ) where
                   set_other ring.places ring.free (place_of capacity ring.oldest i) (Some x)
                   (λ e. places_differ capacity ring.oldest i (length queue) h.oldest before room (e ∙ h.free))
                   ∙ h.tokens i before
-                  ∙ ap (option_map Some) (sym (get_before queue (x ∷ []) i before))
+                  ∙ ap (option_map Some) (sym (slice_get-append_left queue (x ∷ []) i before))
             ];
       }
 
   -- one that is taken and one that is given at one edge
   exchanged : (ring : Ring T) (x y : T) (queue : List T) → Holds capacity ring (y ∷ queue) → length queue < capacity
-      → Holds capacity (ring_moved capacity true true (Some x) ring) (queue ++ x ∷ [])
+      → Holds capacity (ring_step capacity true true (Some x) ring) (queue ++ x ∷ [])
   exchanged ring x y queue h room =
       let count : ring.count - 1 + 1 ≡ ring.count = omega (arith, h.count) in
       subst
       (λ (count : ℕ). Holds capacity
-      (record (ring_moved capacity true true (Some x) ring) { count = count }) (queue ++ x ∷ []))
+      (record (ring_step capacity true true (Some x) ring) { count = count }) (queue ++ x ∷ []))
       count
-      (given (ring_moved capacity false true (Some x) ring) x queue (taken ring (Some x) y queue h) room)
+      (given (ring_step capacity false true (Some x) ring) x queue (taken ring (Some x) y queue h) room)
 
   moved_holds : (gives takes : Bool) (ring : Ring T) (token : Option T) (queue : List T) → Holds capacity ring queue
       → (gives ≡ true → length queue < capacity) → (gives ≡ true → (x : T) × (token ≡ Some x))
       → (takes ≡ true → 0 < length queue)
-      → Holds capacity (ring_moved capacity gives takes token ring)
+      → Holds capacity (ring_step capacity gives takes token ring)
       ((if takes then drop 1 queue else queue) ++ (if gives then option_to_list token else []))
   moved_holds false false ring token queue h room there some =
       subst (λ (l : List T). Holds capacity ring l) (sym (append-nil queue)) h
   moved_holds false true ring token [] h room there some =
       let none : 0 < 0 = some refl in absurd (omega arith)
   moved_holds false true ring token (x ∷ queue) h room there some =
-      subst (λ (l : List T). Holds capacity (ring_moved capacity false true token ring) l) (sym (append-nil queue))
+      subst (λ (l : List T). Holds capacity (ring_step capacity false true token ring) l) (sym (append-nil queue))
       (taken ring token x queue h)
   moved_holds true false ring token queue h room there some =
       let x = there refl in
       subst
-      (λ (token : Option T). Holds capacity (ring_moved capacity true false token ring) (queue ++ option_to_list token))
+      (λ (token : Option T). Holds capacity (ring_step capacity true false token ring) (queue ++ option_to_list token))
       (sym x.1) (given ring x.0 queue h (room refl))
   moved_holds true true ring token [] h room there some =
       let none : 0 < 0 = some refl in absurd (omega arith)
@@ -210,7 +205,7 @@ module _ {T : Type 0} (capacity : ℕ) where
       let x = there refl in
       let more : suc (length queue) < capacity = room refl in
       subst
-      (λ (token : Option T). Holds capacity (ring_moved capacity true true token ring) (queue ++ option_to_list token))
+      (λ (token : Option T). Holds capacity (ring_step capacity true true token ring) (queue ++ option_to_list token))
       (sym x.1) (exchanged ring x.0 y queue h (omega arith))
 
   pub edge_holds : (asked offers : Bool) (ring : Ring T) (token : Option T) (queue : List T)
@@ -219,7 +214,7 @@ module _ {T : Type 0} (capacity : ℕ) where
   edge_holds asked offers ring token queue h there =
       subst
       (λ (count : ℕ). Holds capacity
-      (ring_moved capacity (offers && nat_lt count capacity) (asked && nat_lt 0 count) token ring)
+      (ring_step capacity (offers && nat_lt count capacity) (asked && nat_lt 0 count) token ring)
       (fifo_after capacity asked offers token queue))
       (sym h.count)
       (moved_holds (offers && nat_lt (length queue) capacity) (asked && nat_lt 0 (length queue)) ring token queue h
@@ -241,11 +236,11 @@ module _ {T : Type 0} (capacity : ℕ) where
 -- beside the design
 pub rings_hold : {T : Type 0} (n : Net) (controls : Controls) (rule : Rule T)
     → ((k c : ℕ) → offers n (event_at controls (after_edges n controls rule k)) c ≡ true
-    → (x : T) × (offered n (after_edges n controls rule k) c ≡ Some x))
+    → (x : T) × (token_for n (after_edges n controls rule k) c ≡ Some x))
     → (k c : ℕ) → 0 < n.capacity c
     → Holds (n.capacity c) (ring_after_edges n controls rule c k) ((after_edges n controls rule k).fifo c)
 rings_hold n controls rule defined zero c some = empty_holds (n.capacity c) some
 rings_hold n controls rule defined (suc k) c some =
     let d = after_edges n controls rule k in
     edge_holds (n.capacity c) (asks n (event_at controls d) c) (offers n (event_at controls d) c) (ring_after_edges n controls rule c k)
-    (offered n d c) (d.fifo c) (rings_hold n controls rule defined k c some) (defined k c)
+    (token_for n d c) (d.fifo c) (rings_hold n controls rule defined k c some) (defined k c)

@@ -11,7 +11,7 @@ use Rattle.net_core.specs.Sound.{sink_lists_from}
 use Rattle.repeat_sequencer.specs.declared.sequencer.Sequencer.{Sequencer}
 use Rattle.repeat_sequencer.specs.Steps as sequencer
 use Rattle.clock_sim.specs.Clocks.{after_clocks, clocks}
-use Rattle.design_clocks.specs.Registers.{Controls, Registers, Design, after_edges, event_at, fires_of, offered, offers, steps, unstalled}
+use Rattle.design_clocks.specs.Registers.{Controls, Registers, Design, after_edges, event_at, fires_of, token_for, offers, steps, no_stalls}
 
 -- each sequencer gives from its start its process's script, an event at each step, and then stands at its end
 abbrev pub GiveScripts : Net → Controls → Type 0
@@ -49,11 +49,11 @@ pub record RunsByClock {T : Type 0} (n : Net) (controls : Controls) (rule : Rule
       → after_edges n controls rule k ≡ design_of controls (after_clocks n rule k)
   -- each node has fired what its process has kept
   pub fires : (k p : ℕ)
-      → fires_of n controls rule unstalled p k ≡ ((after_clocks n rule k).local p).kept
+      → fires_of n controls rule no_stalls p k ≡ ((after_clocks n rule k).local p).kept
   -- what is offered to a channel is there
   pub defined : (k c : ℕ)
       → offers n (event_at controls (after_edges n controls rule k)) c ≡ true
-      → (x : T) × (offered n (after_edges n controls rule k) c ≡ Some x)
+      → (x : T) × (token_for n (after_edges n controls rule k) c ≡ Some x)
 
 -- The design takes as many clocks as the clocked run, where no node is held back.
 pub record TakesClocks {T : Type 0} (n : Net) (controls : Controls) (rule : Rule T)
@@ -80,7 +80,7 @@ FiresFindValues {T} n controls rule =
     → (x : T) × (slice_get ((after_edges n controls rule k).node p).slots slot ≡ Some (Some x))
 
 -- what the sinks have fired at the first so many edges, one list for each declared array, empty where it is no output
-abbrev pub given_out : Nest → Net → Controls → Rule ℤ → (ℕ → ℕ → Bool) → ℕ → List (List ℤ)
-given_out nest n controls rule may k =
+abbrev pub results_of : Nest → Net → Controls → Rule ℤ → (ℕ → ℕ → Bool) → ℕ → List (List ℤ)
+results_of nest n controls rule may k =
     sink_lists_from (λ p. fires_of n controls rule may p k)
     (length nest.statements - length (output_numbers nest.arrays)) nest.arrays

@@ -64,8 +64,8 @@ abbrev pub offers : Net → (ℕ → Option Event) → ℕ → Bool
 offers n events c = option_map_or (is_put c) (events (n.writer c)) false
 
 -- what the writer of a channel offers to it: the value that it fired last
-abbrev pub offered : {T : Type 0} → Net → Design T → ℕ → Option T
-offered n d c = (d.node (n.writer c)).fired
+abbrev pub token_for : {T : Type 0} → Net → Design T → ℕ → Option T
+token_for n d c = (d.node (n.writer c)).fired
 
 -- An edge
 
@@ -87,20 +87,20 @@ fire_at rule d p (Some (Get c slot)) = None
 fire_at rule d p (Some (Fire refs)) = Some (rule p (d.node p).turn refs (d.node p).slots)
 fire_at rule d p (Some (Put c)) = None
 
--- the registers of a node of this sequencer behind an event
-abbrev pub behind : {T : Type 0} → Sequencer Event → Rule T → Design T → ℕ → Event → Registers T
-behind sequencer rule d p (Get c slot) =
+-- the registers of a node of this sequencer after an event
+abbrev pub registers_after : {T : Type 0} → Sequencer Event → Rule T → Design T → ℕ → Event → Registers T
+registers_after sequencer rule d p (Get c slot) =
     record (d.node p) {
       control = step sequencer (d.node p).control;
       slots = slice_set (d.node p).slots slot (front (d.fifo c));
     }
-behind sequencer rule d p (Fire refs) =
+registers_after sequencer rule d p (Fire refs) =
     record (d.node p) {
       control = step sequencer (d.node p).control;
       turn = suc (d.node p).turn;
       fired = fire_at rule d p (Some (Fire refs));
     }
-behind sequencer rule d p (Put c) =
+registers_after sequencer rule d p (Put c) =
     record (d.node p) { control = step sequencer (d.node p).control }
 
 -- the registers of a node that stands at this event, after an edge
@@ -108,7 +108,7 @@ abbrev pub node_after : {T : Type 0} → Net → Sequencer Event → Rule T → 
     → Option Event → Registers T
 node_after n sequencer rule d p None = d.node p
 node_after n sequencer rule d p (Some e) =
-    if steps_at n d (Some e) then behind sequencer rule d p e else d.node p
+    if steps_at n d (Some e) then registers_after sequencer rule d p e else d.node p
 
 -- A channel of a capacity after an edge at which its front is asked for or not, and a token is offered or not. The front leaves
 -- where there is one, and the token comes behind where there was room before the edge; both may be at one edge.
@@ -123,7 +123,7 @@ abbrev pub edge : {T : Type 0} → Net → Controls → Rule T → (ℕ → Bool
 edge n controls rule may d = record {
   node = λ p. node_after n (controls p) rule d p (event_if controls may d p);
   fifo = λ c. fifo_after (n.capacity c) (asks n (event_if controls may d) c)
-      (offers n (event_if controls may d) c) (offered n d c) (d.fifo c);
+      (offers n (event_if controls may d) c) (token_for n d c) (d.fifo c);
 }
 
 -- Edges
@@ -144,9 +144,9 @@ fires_of n controls rule may p (suc k) =
     (event_if controls (may k) (after_stalls n controls rule may k) p))
 
 -- no node is held back at any edge
-abbrev pub unstalled : ℕ → ℕ → Bool
-unstalled k p = true
+abbrev pub no_stalls : ℕ → ℕ → Bool
+no_stalls k p = true
 
 -- the design after so many edges from a reset on
 abbrev pub after_edges : {T : Type 0} → Net → Controls → Rule T → ℕ → Design T
-after_edges n controls rule k = after_stalls n controls rule unstalled k
+after_edges n controls rule k = after_stalls n controls rule no_stalls k

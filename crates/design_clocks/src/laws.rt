@@ -9,8 +9,8 @@ ghost use Rattle.net_core.specs.Rules.{values};
 ghost use Rattle.net_core.specs.Shape.{IsWired};
 ghost use Rattle.net_core.specs.Sound.{IsSound};
 ghost use Rattle.clock_sim.specs.Clocks.{clocks};
-ghost use Rattle.design_clocks.specs.Registers.{Controls, after_edges, unstalled};
-ghost use Rattle.design_clocks.specs.Clocked.{FiresFindValues, GiveScripts, RunsByClock, TakesClocks, given_out};
+ghost use Rattle.design_clocks.specs.Registers.{Controls, after_edges, no_stalls};
+ghost use Rattle.design_clocks.specs.Clocked.{FiresFindValues, GiveScripts, RunsByClock, TakesClocks, results_of};
 ghost use Rattle.design_clocks.specs.Plain.{plain};
 ghost use Rattle.design_clocks.specs.Rings.{Holds, ring_after_edges};
 
@@ -45,7 +45,7 @@ pub fn design_computes()
         → TakesClocks (net_of network) controls (values nest d) }
     ensures arrays { (nest : Nest) (network : Network) (controls : Controls) (d : Inputs)
         → IsSound nest network → GiveScripts (net_of network) controls
-        → given_out nest (net_of network) controls (values nest d) unstalled
+        → results_of nest (net_of network) controls (values nest d) no_stalls
         (clocks (net_of network)) ≡ arrays nest d }
     ensures reads { (nest : Nest) (network : Network) (controls : Controls) (d : Inputs)
         → IsSound nest network → GiveScripts (net_of network) controls

@@ -20,7 +20,7 @@ use Rattle.net_core.specs.Rules.{values}
 use Rattle.net_core.specs.Shape.{IsWired}
 use Rattle.net_core.specs.Sound.{IsSound, sink_lists_from}
 use Rattle.design_clocks.specs.Registers.{Controls, Design, after_stalls, event_at}
-use Rattle.design_clocks.specs.Clocked.{GiveScripts, design_of, given_out}
+use Rattle.design_clocks.specs.Clocked.{GiveScripts, design_of, results_of}
 use Rattle.design_clocks.proofs.Clocked.{fires_by_run, run_of, stands_for_run}
 use Rattle.design_clocks.proofs.Edges.{event_alike, who_steps}
 use Rattle.network_laws.specs.Stalls.{run_with_stalls}
@@ -72,7 +72,7 @@ pub stalled_arrays : (nest : Nest) (network : Network) (sound : IsSound nest net
     → GiveScripts (net_of network) controls → (d : Inputs) (may : ℕ → ℕ → Bool) (k : ℕ)
     → IsRun (net_of network) (values nest d) (start (net_of network)) (run_with_stalls (net_of network) (values nest d) may k)
     → ((p : ℕ) → event_at controls (after_stalls (net_of network) controls (values nest d) may k) p ≡ None)
-    → given_out nest (net_of network) controls (values nest d) may k ≡ arrays nest d
+    → results_of nest (net_of network) controls (values nest d) may k ≡ arrays nest d
 stalled_arrays nest network sound controls give d may k is done =
     let n = net_of network in
     let rule = values nest d in

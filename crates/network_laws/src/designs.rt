@@ -9,7 +9,7 @@ ghost use Rattle.net_core.specs.Rules.{values};
 ghost use Rattle.net_core.specs.Shape.{IsWired};
 ghost use Rattle.net_core.specs.Sound.{IsSound};
 ghost use Rattle.design_clocks.specs.Registers.{Controls, after_stalls, event_at};
-ghost use Rattle.design_clocks.specs.Clocked.{GiveScripts, design_of, given_out};
+ghost use Rattle.design_clocks.specs.Clocked.{GiveScripts, design_of, results_of};
 ghost use Rattle.network_laws.specs.Stalls.{IsFair, run_with_stalls};
 
 use crate::clocks::stalls_do_no_harm;
@@ -34,7 +34,7 @@ pub fn stalled_designs_compute<T: Copy>()
         → ((p : ℕ)
         → event_at controls (after_stalls (net_of network) controls (values nest d) may k) p
         ≡ None)
-        → given_out nest (net_of network) controls (values nest d) may k ≡ arrays nest d }
+        → results_of nest (net_of network) controls (values nest d) may k ≡ arrays nest d }
 {
     stalls_do_no_harm::<T>();
     stalls_do_no_harm::<i64>();

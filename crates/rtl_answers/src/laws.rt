@@ -4,8 +4,8 @@ ghost use Rattle.sanlp.specs.Meaning.{arrays};
 ghost use Rattle.net_core.specs.Machine.{net_of};
 ghost use Rattle.net_core.specs.Rules.{values};
 ghost use Rattle.net_core.specs.Sound.{IsSound};
-ghost use Rattle.design_clocks.specs.Clocked.{TakesClocks, given_out};
-ghost use Rattle.design_clocks.specs.Registers.{unstalled};
+ghost use Rattle.design_clocks.specs.Clocked.{TakesClocks, results_of};
+ghost use Rattle.design_clocks.specs.Registers.{no_stalls};
 ghost use Rattle.rtl_line.specs.declared.words.Policy.{Policy};
 ghost use Rattle.rtl_text.specs.Designs.{IsDesignOf, controls_of};
 ghost use Rattle.rtl_answers.specs.Clocking.{clocks_for};
@@ -28,8 +28,8 @@ pub fn answered_clocks_are_those_of_designs(nest: &Nest)
         (values nest.now d) }
     ensures arrays { (policy : Policy) (text : List ℕ) (d : Inputs)
         → (design : IsDesignOf nest.now (network_for policy nest.now) text)
-        → given_out nest.now (net_of (network_for policy nest.now)) (controls_of design.units)
-        (values nest.now d) unstalled (clocks_for policy nest.now) ≡ arrays nest.now d }
+        → results_of nest.now (net_of (network_for policy nest.now)) (controls_of design.units)
+        (values nest.now d) no_stalls (clocks_for policy nest.now) ≡ arrays nest.now d }
 {
     is_sound();
     has_certificate(nest);

@@ -10,8 +10,8 @@ ghost use Rattle.net_core.specs.Rules.{values};
 ghost use Rattle.net_core.specs.Shape.{IsShaped};
 ghost use Rattle.net_core.specs.Sound.{IsSound};
 ghost use Rattle.clock_sim.specs.Clocks.{clocks};
-ghost use Rattle.design_clocks.specs.Registers.{unstalled};
-ghost use Rattle.design_clocks.specs.Clocked.{FiresFindValues, GiveScripts, RunsByClock, TakesClocks, given_out};
+ghost use Rattle.design_clocks.specs.Registers.{no_stalls};
+ghost use Rattle.design_clocks.specs.Clocked.{FiresFindValues, GiveScripts, RunsByClock, TakesClocks, results_of};
 ghost use Rattle.node_automata.specs.Automata.{automata};
 ghost use Rattle.vhdl_text.specs.Refusal.{first_too_long};
 ghost use Rattle.unit_text.specs.declared.unit.Unit.{Unit};
@@ -85,7 +85,7 @@ pub fn designs_run_by_clock()
         → TakesClocks (net_of network) (controls_of design.units) (values nest d) }
     ensures arrays { (nest : Nest) (network : Network) (text : List ℕ) (d : Inputs)
         → IsSound nest network → (design : IsDesignOf nest network text)
-        → given_out nest (net_of network) (controls_of design.units) (values nest d) unstalled
+        → results_of nest (net_of network) (controls_of design.units) (values nest d) no_stalls
         (clocks (net_of network)) ≡ arrays nest d }
     ensures reads { (nest : Nest) (network : Network) (text : List ℕ) (d : Inputs)
         → IsSound nest network → (design : IsDesignOf nest network text)

@@ -20,4 +20,5 @@ pub mod CertParts
 pub mod SlotLemmas
 pub mod QueueLemmas
 pub mod TagSteps
+pub mod BlockSteps
 mod Worked

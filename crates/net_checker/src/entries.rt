@@ -1,5 +1,5 @@
 ghost use Rattle.std.specs.Bool.{OnTrue};
-ghost use Rattle.std.specs.Prelude.{◌≡◌, ◌<◌, ◌+◌, ◌^◌, ℕ, ℤ, List, None, length, slice_get, true, IfOk};
+ghost use Rattle.std.specs.Prelude.{◌≡◌, ◌<◌, ◌+◌, ◌^◌, ℕ, ℤ, List, [], ◌∷◌, None, length, slice_get, true, IfOk, IsTrue, OnOk};
 ghost use Rattle.sanlp.specs.Points.{points_of};
 ghost use Rattle.source_tree.specs.Sources.{sources_of};
 ghost use Rattle.net_core.specs.Cuts.{positions};
@@ -11,9 +11,10 @@ ghost use Rattle.net_core.specs.Sound.{FitsNest};
 ghost use Rattle.net_checker.specs.Choice.{first_below};
 ghost use Rattle.net_checker.specs.Entries.{entry_refusal, is_wanted, name_refusal, point_of, schedule_refusal, seen_of, unended, wanted_of};
 ghost use Rattle.net_checker.specs.Lookups.{refused_reference, source_in};
-ghost use Rattle.net_checker.specs.Schedules.{entries_in};
+ghost use Rattle.net_checker.specs.Schedules.{LeadsTo, entries_in};
 ghost use Rattle.net_checker.specs.SlotRows.{slots_in};
 ghost use Rattle.net_checker.specs.TagStates.{IsTagState, cut_in, state_of};
+ghost use Rattle.script_blocks.specs.Expansion.{part_expansion, parts_expansion, repeated};
 
 use crate::schedule::Schedule;
 use crate::slots::Slots;
@@ -22,7 +23,7 @@ use crate::verdict::{Refusal, Seen, Wanted};
 use affine_core::Vector;
 use net_core::{Event, Network, Ref, Refs};
 use sanlp::{Nest, Point, Points, Tag, reads_before};
-use script_blocks::Script;
+use script_blocks::{BlockPart, Script};
 use source_tree::SourceTable;
 use std::alloc::{AllocError, Global};
 
@@ -290,8 +291,103 @@ fn listed_refusal(
     Ok(unended(network, &state))
 }
 
-// The same of a schedule that is kept folded.
-fn folded_refusal(
+// Makes one entry of a schedule, if it is fine. It answers whether it is.
+fn step_if_fine(
+    nest: &Nest,
+    network: &Network,
+    table: &SourceTable,
+    state: &mut TagState,
+    process: u32,
+) -> Result<bool, AllocError>
+    requires fits { FitsNest nest.now network.now }
+    requires table { table.now.of ≡ sources_of nest.now }
+    requires state { IsTagState (net_of network.now) state.old }
+    ensures state { OnOk result (IsTagState (net_of network.now) state.new) }
+    ensures fine { IfOk result (λ fine. IsTrue fine
+        → LeadsTo nest.now (net_of network.now) (process ∷ []) state.old state.new) }
+{
+    if !is_fine(nest, network, table, state, process) {
+        return Ok(false);
+    }
+    state.step(network, process)?;
+    Ok(true)
+}
+
+// Makes the entries for which these parts stand, up to the first that isn't fine. It answers whether all are.
+#[cycle(stepping)]
+fn step_over_parts(
+    nest: &Nest,
+    network: &Network,
+    table: &SourceTable,
+    state: &mut TagState,
+    parts: &[BlockPart<u32>],
+) -> Result<bool, AllocError>
+    requires fits { FitsNest nest.now network.now }
+    requires table { table.now.of ≡ sources_of nest.now }
+    requires state { IsTagState (net_of network.now) state.old }
+    ensures state { OnOk result (IsTagState (net_of network.now) state.new) }
+    ensures fine { IfOk result (λ fine. IsTrue fine
+        → LeadsTo nest.now (net_of network.now) (parts_expansion parts.now) state.old state.new) }
+{
+    for part in parts {
+        if !step_over_part(nest, network, table, state, part)? {
+            return Ok(false);
+        }
+    }
+    Ok(true)
+}
+
+#[cycle(stepping)]
+fn step_over_part(
+    nest: &Nest,
+    network: &Network,
+    table: &SourceTable,
+    state: &mut TagState,
+    part: &BlockPart<u32>,
+) -> Result<bool, AllocError>
+    requires fits { FitsNest nest.now network.now }
+    requires table { table.now.of ≡ sources_of nest.now }
+    requires state { IsTagState (net_of network.now) state.old }
+    ensures state { OnOk result (IsTagState (net_of network.now) state.new) }
+    ensures fine { IfOk result (λ fine. IsTrue fine
+        → LeadsTo nest.now (net_of network.now) (part_expansion part.now) state.old state.new) }
+{
+    match part {
+        BlockPart::Item(process) => step_if_fine(nest, network, table, state, *process),
+        BlockPart::Repeat(count, body) => {
+            step_over_copies(nest, network, table, state, *count, body.parts.as_slice())
+        }
+    }
+}
+
+// The same of so many copies of these parts.
+#[cycle(stepping)]
+fn step_over_copies(
+    nest: &Nest,
+    network: &Network,
+    table: &SourceTable,
+    state: &mut TagState,
+    count: u32,
+    parts: &[BlockPart<u32>],
+) -> Result<bool, AllocError>
+    requires fits { FitsNest nest.now network.now }
+    requires table { table.now.of ≡ sources_of nest.now }
+    requires state { IsTagState (net_of network.now) state.old }
+    ensures state { OnOk result (IsTagState (net_of network.now) state.new) }
+    ensures fine { IfOk result (λ fine. IsTrue fine
+        → LeadsTo nest.now (net_of network.now) (repeated count (parts_expansion parts.now))
+        state.old state.new) }
+{
+    for _ in 0..count {
+        if !step_over_parts(nest, network, table, state, parts)? {
+            return Ok(false);
+        }
+    }
+    Ok(true)
+}
+
+// What is wrong with a schedule that is kept folded, if anything is, found entry by entry.
+fn first_bad_entry(
     alloc: Global,
     nest: &Nest,
     points: &Points,
@@ -321,6 +417,31 @@ fn folded_refusal(
         entry += 1;
     }
     Ok(unended(network, &state))
+}
+
+// The same. Where the schedule's blocks tell that all entries are fine, none is sought.
+fn folded_refusal(
+    alloc: Global,
+    nest: &Nest,
+    points: &Points,
+    network: &Network,
+    table: &SourceTable,
+    schedule: &Script<u32>,
+) -> Result<Option<Refusal>, AllocError>
+    requires points { points.now.of ≡ points_of nest.now }
+    requires fits { FitsNest nest.now network.now }
+    requires numbers { FitsNumbers (net_of network.now) }
+    requires table { table.now.of ≡ sources_of nest.now }
+    ensures { IfOk result
+        (λ refusal. refusal ≡ schedule_refusal nest.now network.now schedule.now) }
+{
+    let mut state = TagState::new(alloc, network)?;
+    let parts = schedule.blocks().parts.as_slice();
+    if step_over_parts(nest, network, table, &mut state, parts)? {
+        return Ok(unended(network, &state));
+    }
+    drop(state);
+    first_bad_entry(alloc, nest, points, network, table, schedule)
 }
 
 // The first entry of the schedule that is refused, and else the least process that it leaves unended, if there is one.

@@ -1,7 +1,7 @@
 use Rattle.std.proofs.Common.{◌≡◌, ◌++◌, length}
 use Rattle.net_core.specs.Machine.{net_of}
 use Rattle.net_checker.proofs.Walk.{IsWalked}
-use Rattle.net_checker.proofs.entries.folded_refusal.Given as goal
+use Rattle.net_checker.proofs.entries.first_bad_entry.Given as goal
 
 abbrev pub invariant-loop-process : goal.invariant-loop-process
 invariant-loop-process l = record {

@@ -45,40 +45,95 @@ fn is_at(vectors: &[Vector], place: usize, at: &Vector) -> bool
     }
 }
 
-// The turn of a point among those of its statement, which is looked for at this place first.
-fn turn_of(vectors: &[Vector], at: &Vector, guess: usize) -> Option<usize>
+// The turn of a point among those of its statement, which is looked for at these two places first.
+fn turn_of(vectors: &[Vector], at: &Vector, guess: usize, second: usize) -> Option<usize>
     ensures { (f : ℕ) → AreInOrder vectors.now → slice_get vectors.now f ≡ Some at.now
         → result ≡ Some f }
 {
     if is_at(vectors, guess, at) {
         return Some(guess);
     }
+    if is_at(vectors, second, at) {
+        return Some(second);
+    }
     vectors.binary_search(at).ok()
 }
 
-// The turn that was found last, of which statement, and how far it is from the one before. Nothing rests on them.
-#[derive(Drop)]
-struct Steps {
+// Where a statement's turns that were found go: the last one, the step by which they mostly go on, the last other step,
+// and whether that came last. In rows they go on by one step inside a row and by another to the next. Nothing rests on it.
+#[derive(Clone, Copy)]
+struct Pace {
     statement: u32,
     last: usize,
     step: usize,
+    jump: usize,
+    jumped: bool,
 }
 
-impl Steps {
-    // The turn that comes if the turns go on by equal steps.
+impl Pace {
+    // Before the first turn of a statement that is found.
+    fn before(statement: u32) -> Pace {
+        Pace {
+            statement,
+            last: 0,
+            step: 0,
+            jump: 1,
+            jumped: false,
+        }
+    }
+
+    // The turn that comes if the turns go on by the usual step.
     fn guess(&self) -> usize {
         self.last.wrapping_add(self.step)
     }
 
-    fn note(&mut self, statement: u32, turn: usize) {
-        self.statement = statement;
-        self.step = turn.wrapping_sub(self.last);
+    // The turn that comes if they go on by the other one.
+    fn second_guess(&self) -> usize {
+        self.last.wrapping_add(self.jump)
+    }
+
+    // Another step that comes twice, one after the other, is the usual one from then on.
+    fn note(&mut self, turn: usize) {
+        let step = turn.wrapping_sub(self.last);
         self.last = turn;
+        if step == self.step {
+            self.jumped = false;
+        } else if self.jumped && step == self.jump {
+            self.jump = self.step;
+            self.step = step;
+            self.jumped = false;
+        } else {
+            self.jump = step;
+            self.jumped = true;
+        }
+    }
+}
+
+// The pace of the statement whose turn was found last, and of the one that was found before it.
+#[derive(Drop)]
+struct Paces {
+    pace: Pace,
+    other: Pace,
+}
+
+impl Paces {
+    // Goes on with this statement.
+    fn choose(&mut self, statement: u32) {
+        if self.pace.statement == statement {
+            return;
+        }
+        let other = self.other;
+        self.other = self.pace;
+        self.pace = if other.statement == statement {
+            other
+        } else {
+            Pace::before(statement)
+        };
     }
 }
 
 // The tag of the entry whose point was found, or none where zero was.
-fn tag_of(nest: &Nest, points: &Points, found: &Found, steps: &mut Steps) -> Option<Tag>
+fn tag_of(nest: &Nest, points: &Points, found: &Found, paces: &mut Paces) -> Option<Tag>
     requires size { SizeIsOk nest.now }
     requires points { points.now.of ≡ points_of nest.now }
     requires writer { (writer : Option ℕ) × IsPointOf (trace nest.now) writer found.now }
@@ -88,8 +143,10 @@ fn tag_of(nest: &Nest, points: &Points, found: &Found, steps: &mut Steps) -> Opt
     match found {
         Found::At(point) => {
             let vectors = vectors_of(points, point.statement);
-            let turn = turn_of(vectors, &point.at, steps.guess())?;
-            steps.note(point.statement, turn);
+            paces.choose(point.statement);
+            let (guess, second) = (paces.pace.guess(), paces.pace.second_guess());
+            let turn = turn_of(vectors, &point.at, guess, second)?;
+            paces.pace.note(turn);
             Some(Tag {
                 process: point.statement,
                 turn: turn as u32,
@@ -111,18 +168,18 @@ fn vector_of_turn(points: &Points, statement: u32, turn: u32) -> Option<&Vector>
     }
 }
 
-// The tag of the point at the turn that comes if the turns go on by equal steps, where it is known that a tree gives it.
-fn guessed_tag(points: &Points, follower: &Follower, at: &Vector, steps: &Steps) -> Option<Tag>
+// The tag of the point at the turn that comes if the turns go on by the usual step, where it is known that a tree gives it.
+fn guessed_tag(points: &Points, follower: &Follower, at: &Vector, pace: &Pace) -> Option<Tag>
     requires { (tree : Tree) × IsStretchOf tree follower.now }
     ensures { IfSome result
         (λ tag. (tree : Tree) → IsStretchOf tree follower.now
         → GivesTag points.now.of tree at.now tag) }
 {
-    let turn = u32::try_from(steps.guess()).ok()?;
-    let there = vector_of_turn(points, steps.statement, turn)?;
-    if follower.tells(at, steps.statement, there.as_slice()) {
+    let turn = u32::try_from(pace.guess()).ok()?;
+    let there = vector_of_turn(points, pace.statement, turn)?;
+    if follower.tells(at, pace.statement, there.as_slice()) {
         Some(Tag {
-            process: steps.statement,
+            process: pace.statement,
             turn,
         })
     } else {
@@ -153,19 +210,18 @@ fn add_sources(
 {
     let vectors = vectors_of(points, statement);
     let mut follower = Follower::new();
-    let mut steps = Steps {
-        statement: 0,
-        last: 0,
-        step: 0,
+    let mut paces = Paces {
+        pace: Pace::before(0),
+        other: Pace::before(0),
     };
     for (turn, at) in vectors.iter().enumerate() {
-        if let Some(tag) = guessed_tag(points, &follower, at, &steps) {
-            steps.note(tag.process, tag.turn as usize);
+        if let Some(tag) = guessed_tag(points, &follower, at, &paces.pace) {
+            paces.pace.note(tag.turn as usize);
             sources.push(Some(tag))?;
             continue;
         }
         match follower.eval(tree, at) {
-            Ok(found) => sources.push(tag_of(nest, points, &found, &mut steps))?,
+            Ok(found) => sources.push(tag_of(nest, points, &found, &mut paces))?,
             Err(_) => return Ok(Some(Rule::Overflow(turn as u32))),
         }
     }

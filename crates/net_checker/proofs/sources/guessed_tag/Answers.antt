@@ -9,6 +9,6 @@ returns-then-tells c =
       point = c.in_ok-there.there.now;
       there = sym c.in_ok-there.ensures;
       is = ((c.tells.ensures tree known).0 c.if-tells.true).1
-          ∙ ap (λ point. Some (found.At (record { statement = c.args.steps.now.statement; at = point })))
+          ∙ ap (λ point. Some (found.At (record { statement = c.args.pace.now.statement; at = point })))
           c.as_slice.ensures.value;
     }

@@ -10,3 +10,7 @@ pub returns : goal.returns
 returns c f sorted here =
     c.ok.ensures.value ∙ search_found c.args.vectors.now sorted f c.args.at.now here c.binary_search.result
     c.binary_search.ensures.bound c.binary_search.ensures.position
+
+pub returns-then-is_at-2 : goal.returns-then-is_at-2
+returns-then-is_at-2 c f sorted here =
+    once c.args.vectors.now sorted f c.args.at.now here c.args.second (c.is_at-2.ensures c.if-is_at-2.true)

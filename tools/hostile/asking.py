@@ -2,10 +2,12 @@
 from __future__ import annotations
 
 import atexit
+import fcntl
 import os
 import resource
 import shutil
 import signal
+import socket
 import struct
 import subprocess
 import tempfile
@@ -43,12 +45,12 @@ def compiled(source: str, to: str | os.PathLike[str], *flags: str) -> str:
     return os.fspath(to)
 
 
-STARTER: list[str] = []
+STARTERS: dict[str, str] = {}
 
 
-def starter() -> str:
-    """The small program that starts the others, which is compiled once."""
-    if not STARTER:
+def starter(name: str = "start") -> str:
+    """A small program that starts others, which is compiled once."""
+    if name not in STARTERS:
         folder, owner = tempfile.mkdtemp(), os.getpid()
 
         def remove() -> None:
@@ -57,8 +59,8 @@ def starter() -> str:
                 shutil.rmtree(folder, ignore_errors=True)
 
         atexit.register(remove)
-        STARTER.append(compiled("start.c", os.path.join(folder, "start"), "-static"))
-    return STARTER[0]
+        STARTERS[name] = compiled(f"{name}.c", os.path.join(folder, name), "-static")
+    return STARTERS[name]
 
 
 def in_memory(data: bytes = b"") -> int:
@@ -134,6 +136,45 @@ def ask(
     for descriptor in made:
         os.close(descriptor)
     return End(os.waitstatus_to_exitcode(status), output, complaint, seconds, cpu / 1e6, kilobytes, bool(late))
+
+
+class Server:
+    """A small process that starts programs one after the other, which costs less than `ask` does. Their streams are files in memory that
+    serve them all."""
+
+    def __init__(self) -> None:
+        mine, its = socket.socketpair()
+        self.socket = mine
+        self.bundle, self.output, self.complaint = (in_memory() for _ in range(3))
+        streams = enumerate((its.fileno(), self.bundle, self.output, self.complaint), 3)
+        # Each stands above the numbers that it is to have there.
+        above = [(fcntl.fcntl(it, fcntl.F_DUPFD_CLOEXEC, 16), number) for number, it in streams]
+        actions = [(os.POSIX_SPAWN_DUP2, it, number) for it, number in above]
+        self.process = os.posix_spawn(starter("serve"), ["serve"], os.environ, file_actions=actions)
+        for it, _ in above:
+            os.close(it)
+        its.close()
+
+    def close(self) -> None:
+        """Ends the small process."""
+        self.socket.close()
+        os.waitpid(self.process, 0)
+        for it in (self.bundle, self.output, self.complaint):
+            os.close(it)
+
+    def ask(self, program: str, words: Sequence[str], bundle: bytes, limit: float) -> End:
+        """Runs the program once on this bundle."""
+        at = 0
+        while at < len(bundle):
+            at += os.pwrite(self.bundle, bundle[at : at + (1 << 24)], at)
+        os.ftruncate(self.bundle, len(bundle))
+        told = b"".join(os.fsencode(it) + b"\0" for it in (program, *words))
+        start = time.perf_counter()
+        self.socket.sendall(struct.pack("3q", len(told), len(words) + 1, int(limit * 1e6)) + told)
+        status, kilobytes, cpu, late = struct.unpack("4q", self.socket.recv(32, socket.MSG_WAITALL))
+        seconds = time.perf_counter() - start
+        output, complaint = all_of(self.output), all_of(self.complaint)
+        return End(os.waitstatus_to_exitcode(status), output, complaint, seconds, cpu / 1e6, kilobytes, bool(late))
 
 
 def keep_below(gigabytes: int) -> None:

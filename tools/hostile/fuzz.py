@@ -16,6 +16,7 @@ FOLDER, and fails where there is one. The same seed makes the same inputs, whate
 """
 from __future__ import annotations
 
+import gc
 import os
 import random
 import re
@@ -26,6 +27,7 @@ from collections import Counter
 from collections.abc import Callable, Sequence
 from concurrent.futures import FIRST_COMPLETED, Future, ProcessPoolExecutor, wait
 from pathlib import Path
+from typing import Any
 
 sys.path.insert(0, str(Path(__file__).resolve().parents[1]))
 from common import bundled, parser_of, program_of, table
@@ -63,25 +65,38 @@ LIMITS = [
 ]
 
 
+class Pick(random.Random):
+    """Chances, of which the usual ones cost less than the library's. Each is by a number with 53 random bits."""
+
+    def choice(self, found: Sequence[Any]) -> Any:
+        return found[int(self.random() * len(found))]
+
+    def below(self, count: int) -> int:
+        return int(self.random() * count)
+
+    def within(self, least: int, most: int) -> int:
+        return least + int(self.random() * (most - least + 1))
+
+
 # ------------------------------------------------------------------------------------------------------------ programs
 
 
 class Source:
     """A random program, with data for it and values for its parameters."""
 
-    def __init__(self, pick: random.Random) -> None:
+    def __init__(self, pick: Pick) -> None:
         self.pick = pick
         self.names = iter(
             pick.sample(["N", "M", "K", "x", "y", "z", "t", "s", "A", "B", "_c", "image2", "Params", "minimum", "iffy", "outer"], 16)
         )
-        self.params = {next(self.names): pick.choice([0, 1, 2, 3, 4, 5, 6, -2]) for _ in range(pick.randint(0, 3))}
+        self.params = {next(self.names): pick.choice([0, 1, 2, 3, 4, 5, 6, -2]) for _ in range(pick.within(0, 3))}
         self.arrays = []
         cells = pick.choice([12, 40, 90])
         declared = []
-        for _ in range(pick.randint(1, 5)):
+        for _ in range(pick.within(1, 5)):
             kind, name = pick.choice(["in", "in", "out", "out", "inout", "var"]), next(self.names)
             extents, most = [], cells
-            for _ in range(pick.choice([0, 0, 1, 1, 1, 2, 2, 3, pick.randint(0, 6)])):
+            for _ in range(pick.choice([0, 0, 1, 1, 1, 2, 2, 3, pick.within(0, 6)])):
                 text, value = self.extent(most)
                 extents.append(text)
                 most //= max(1, value)
@@ -94,10 +109,10 @@ class Source:
         if not any(kind != "in" for _, kind, _ in self.arrays) or pick.random() < 0.2:
             self.arrays.append((next(self.names), "out", []))
             declared.append(f"out {self.arrays[-1][0]};")
-        self.left = pick.randint(1, 9)
+        self.left = pick.within(1, 9)
         self.depth_most = pick.choice([2, 3, 3, 4, 6])
         self.turns = {2: 14, 3: 8, 4: 5, 6: 3}[self.depth_most]
-        body = [self.statement([], 0) for _ in range(pick.randint(1, 4))]
+        body = [self.statement([], 0) for _ in range(pick.within(1, 4))]
         if pick.random() < 0.02:
             body.append(self.far())
         text = " ".join(declared + body)
@@ -106,7 +121,7 @@ class Source:
 
     def extent(self, most: int) -> tuple[str, int]:
         pick = self.pick
-        value = pick.randint(0, max(1, min(6, most)))
+        value = pick.within(0, max(1, min(6, most)))
         fitting = [it for it, given in self.params.items() if 0 <= given <= most]
         if fitting and pick.random() < 0.5:
             name = pick.choice(fitting)
@@ -118,13 +133,13 @@ class Source:
         pick = self.pick
         names = [*self.params] or ["1"]
         return pick.choice(
-            [str(pick.randint(0, 7)), pick.choice(names), f"({pick.choice(names)} - {pick.randint(0, 3)})", f"-{pick.choice(names)}"]
+            [str(pick.within(0, 7)), pick.choice(names), f"({pick.choice(names)} - {pick.within(0, 3)})", f"-{pick.choice(names)}"]
         )
 
     def affine(self, inside: list[str], near: bool = False) -> str:
         """An affine expression. `near` keeps it small."""
         pick = self.pick
-        parts = [str(pick.randint(0, 6))] if pick.random() < 0.7 or not inside else []
+        parts = [str(pick.within(0, 6))] if pick.random() < 0.7 or not inside else []
         for name in inside:
             if pick.random() < (0.25 if near else 0.5):
                 parts.append(
@@ -132,8 +147,8 @@ class Source:
                         [
                             name,
                             name,
-                            f"{pick.randint(0, 3)} * {name}",
-                            f"({name} - {pick.randint(0, 4)})",
+                            f"{pick.within(0, 3)} * {name}",
+                            f"({name} - {pick.within(0, 4)})",
                             f"-{name}",
                             f"{name} * {self.atom(inside)}",
                             f"({name} - {name}) * {name}",
@@ -177,10 +192,10 @@ class Source:
             [
                 *inside * 2,
                 *self.params,
-                str(pick.randint(0, 9)),
+                str(pick.within(0, 9)),
                 str(pick.choice(EXTREMES)),
                 f"-{pick.choice(EXTREMES)}",
-                f"- - {pick.randint(1, 9)}",
+                f"- - {pick.within(1, 9)}",
             ]
         )
 
@@ -204,17 +219,17 @@ class Source:
         pick = self.pick
         name = pick.choice([it for it in ("i", "j", "k", "l", "i2", "_", "p", "q", "r") if it not in inside and it not in self.params])
         lower = self.affine(inside, True)
-        upper = f"{lower} + {pick.randint(0, self.turns)}" if pick.random() < 0.85 else self.affine(inside, True)
-        step = pick.choice([f"{name}++", f"++{name}", f"{name} += 1", f"{name} += {pick.randint(1, 4)}"])
+        upper = f"{lower} + {pick.within(0, self.turns)}" if pick.random() < 0.85 else self.affine(inside, True)
+        step = pick.choice([f"{name}++", f"++{name}", f"{name} += 1", f"{name} += {pick.within(1, 4)}"])
         positive = [it for it, value in self.params.items() if value > 0]
         if positive and pick.random() < 0.2:
             step = f"{name} += " + pick.choice(["{0}", "2 * {0} - 1", "{0} + 3", "({0})"]).format(pick.choice(positive))
         elif pick.random() < 0.02:
             step = f"{name} += {pick.choice([2147483647, 1000, 65536])}"
         if "+=" not in step and pick.random() < 0.3:
-            lower = f"max({', '.join([lower, *(self.affine(inside, True) + ' - 3' for _ in range(pick.randint(0, 2)))])})"
+            lower = f"max({', '.join([lower, *(self.affine(inside, True) + ' - 3' for _ in range(pick.within(0, 2)))])})"
         if pick.random() < 0.3:
-            upper = f"min({', '.join([upper, *(self.affine(inside, True) + f' + {2 * self.turns}' for _ in range(pick.randint(0, 2)))])})"
+            upper = f"min({', '.join([upper, *(self.affine(inside, True) + f' + {2 * self.turns}' for _ in range(pick.within(0, 2)))])})"
         head = f"for ({pick.choice(['', 'int '])}{name} = {lower}; {name} {pick.choice(['<', '<='])} {upper}; {step}) "
         return head + self.statement([*inside, name], depth + 1)
 
@@ -247,6 +262,13 @@ class Source:
         gaps = [b" ", b" ", b"\n", b"\r\n", b"\t", b"  ", b"/* \xff*%/ */", b"/**/", b"// ; } \x00\n", b" \n\n "]
         return b"".join(it + pick.choice(gaps) for it in tokens)
 
+    def given(self) -> int:
+        """A given value, which is small, or any, or the least or the greatest."""
+        kind = self.pick.below(5)
+        if kind < 2:
+            return self.pick.within(-9, 9)
+        return (self.pick.getrandbits(64) - 2**63, -(2**63), 2**63 - 1)[kind - 2]
+
     def data(self) -> bytes:
         """The records of the given arrays, in some order and form."""
         pick = self.pick
@@ -261,10 +283,7 @@ class Source:
             count = 1
             for extent in array.extents:
                 count *= extent
-            values = [
-                str(pick.choice([pick.randint(-9, 9), pick.randint(-9, 9), pick.randint(-(2**63), 2**63 - 1), -(2**63), 2**63 - 1]))
-                for _ in range(count)
-            ]
+            values = [str(self.given()) for _ in range(count)]
             if pick.random() < 0.2:
                 values = [
                     pick.choice([it, f'"{it}"', f" {it}", f"\t{it} ", it.replace("-", "-00"), f'"{it[:1]}"{it[1:]}']) for it in values
@@ -281,26 +300,26 @@ class Source:
 # -------------------------------------------------------------------------------------------------------------- damage
 
 
-def changed_bytes(pick: random.Random, text: bytes) -> bytes:
+def changed_bytes(pick: Pick, text: bytes) -> bytes:
     text = bytearray(text)
     for _ in range(pick.choice([1, 1, 2, 5])):
-        at = pick.randrange(len(text) + 1)
+        at = pick.below(len(text) + 1)
         kind = pick.random()
         if kind < 0.4 and at < len(text):
-            text[at] = pick.choice([text[at] ^ 1 << pick.randrange(8), pick.randrange(256), pick.choice(b'();{}[]=<>+-*&/,%\n "0z')])
+            text[at] = pick.choice([text[at] ^ 1 << pick.below(8), pick.below(256), pick.choice(b'();{}[]=<>+-*&/,%\n "0z')])
         elif kind < 0.6 and at < len(text):
             del text[at : at + pick.choice([1, 1, 2, 8])]
         else:
-            text[at:at] = bytes([pick.choice([pick.randrange(256), *b'();{}[]=<>+-*&/,%\n\r "019fgpz'])])
+            text[at:at] = bytes([pick.choice([pick.below(256), *b'();{}[]=<>+-*&/,%\n\r "019fgpz'])])
     return bytes(text)
 
 
-def changed_tokens(pick: random.Random, text: bytes, pattern: bytes = rb"[A-Za-z_0-9]+|\s+|.") -> bytes:
+def changed_tokens(pick: Pick, text: bytes, pattern: bytes = rb"[A-Za-z_0-9]+|\s+|.") -> bytes:
     parts = re.findall(pattern, text, re.S)
     for _ in range(pick.choice([1, 1, 2])):
         if len(parts) < 2:
             break
-        a, b = pick.randrange(len(parts)), pick.randrange(len(parts))
+        a, b = pick.below(len(parts)), pick.below(len(parts))
         kind = pick.random()
         if kind < 0.3:
             parts[a], parts[b] = parts[b], parts[a]
@@ -334,7 +353,7 @@ def changed_tokens(pick: random.Random, text: bytes, pattern: bytes = rb"[A-Za-z
     return b"".join(parts)
 
 
-def changed_numbers(pick: random.Random, text: bytes) -> bytes:
+def changed_numbers(pick: Pick, text: bytes) -> bytes:
     places = [it.span() for it in re.finditer(rb"-?[0-9]+", text)]
     for start, end in sorted(pick.sample(places, min(len(places), pick.choice([1, 1, 1, 2, 3]))), reverse=True):
         value = int(text[start:end])
@@ -345,12 +364,12 @@ def changed_numbers(pick: random.Random, text: bytes) -> bytes:
     return text
 
 
-def changed_lines(pick: random.Random, text: bytes) -> bytes:
+def changed_lines(pick: Pick, text: bytes) -> bytes:
     lines = text.splitlines(True)
     for _ in range(pick.choice([1, 1, 2, 4])):
         if not lines:
             break
-        a, b = pick.randrange(len(lines)), pick.randrange(len(lines))
+        a, b = pick.below(len(lines)), pick.below(len(lines))
         kind = pick.random()
         if kind < 0.4:
             lines[a], lines[b] = lines[b], lines[a]
@@ -365,7 +384,7 @@ def changed_lines(pick: random.Random, text: bytes) -> bytes:
     return b"".join(lines)
 
 
-def changed_counts(pick: random.Random, text: bytes) -> bytes:
+def changed_counts(pick: Pick, text: bytes) -> bytes:
     """A certificate that announces other numbers than it has."""
     lines = text.splitlines(True)
     heads = [at for at, it in enumerate(lines) if it.startswith((b"sizes", b"process", b"channel", b"r "))]
@@ -375,19 +394,19 @@ def changed_counts(pick: random.Random, text: bytes) -> bytes:
     return b"".join(lines)
 
 
-def changed_schedule(pick: random.Random, text: bytes) -> bytes:
+def changed_schedule(pick: Pick, text: bytes) -> bytes:
     """Entries of the schedule that change their places."""
     lines = text.splitlines(True)
     entries = [at for at, it in enumerate(lines) if re.fullmatch(rb"[0-9]+\n", it)]
     for _ in range(pick.choice([1, 1, 2, 8])):
         if len(entries) > 1:
-            at = pick.randrange(len(entries) - 1)
+            at = pick.below(len(entries) - 1)
             a, b = entries[at], pick.choice([entries[at + 1], pick.choice(entries)])
             lines[a], lines[b] = lines[b], lines[a]
     return b"".join(lines)
 
 
-def changed_repeats(pick: random.Random, text: bytes) -> bytes:
+def changed_repeats(pick: Pick, text: bytes) -> bytes:
     """A repeat round a line or a part, or one that goes away, or a text of the other version."""
     lines = text.splitlines(True)
     heads = [at for at, it in enumerate(lines) if it.startswith(b"r ")]
@@ -402,13 +421,13 @@ def changed_repeats(pick: random.Random, text: bytes) -> bytes:
             [b"r 1 1\n", b"r 2 0\n", b"r 0 1\n", b"r 4294967295 1\n", b"r 142606336 1\n", b"r 2\n", b"r 2 2\n", b"r 3 1\n", b"r -2 1\n"]
         )
     elif lines:
-        at = pick.randrange(len(lines))
+        at = pick.below(len(lines))
         count = pick.choice([1, 1, 2, 40, 511, 512, 513])
         lines[at:at] = [b"r 2 1\n" if count > 2 else b"r %d 1\n" % pick.choice([2, 3, 5])] * count
     return b"".join(lines)
 
 
-def changed_classes(pick: random.Random, text: bytes) -> bytes:
+def changed_classes(pick: Pick, text: bytes) -> bytes:
     words = [b"inorder", b"inorder+", b"reorder", b"reorder+"]
     return re.sub(rb"(?:in|re)order\+?(?=\n)", lambda it: pick.choice([it.group(), *words]), text, count=pick.choice([1, 2, 99]))
 
@@ -433,11 +452,11 @@ DAMAGES = {
 WHOLE = ["parts exchanged", "a part of another program", "bundle: bytes", "bundle: cut", "values of parameters", "words"]
 
 
-def changed_words(pick: random.Random, command: str, words: Sequence[str]) -> list[str]:
+def changed_words(pick: Pick, command: str, words: Sequence[str]) -> list[str]:
     """Other words: a command and what stands behind it."""
     words = [command, *words]
     for _ in range(pick.choice([1, 1, 2, 3])):
-        at = pick.randrange(len(words) + 1)
+        at = pick.below(len(words) + 1)
         new = pick.choice(
             [
                 "--",
@@ -506,7 +525,7 @@ def changed_words(pick: random.Random, command: str, words: Sequence[str]) -> li
 
 
 def damaged(
-    pick: random.Random, parts: list[bytes], words: list[str], other: Callable[[], list[bytes]]
+    pick: Pick, parts: list[bytes], words: list[str], other: Callable[[], list[bytes]]
 ) -> tuple[str, str, list[str], bytes]:
     """A damaged bundle: what was done, the command that is to meet it, its words and its bytes."""
     parts = [part if part.endswith(b"\n") or not part else part + b"\n" for part in parts]
@@ -522,7 +541,7 @@ def damaged(
     if kind == "parts exchanged":
         pick.shuffle(parts)
     if kind == "a part of another program":
-        number = pick.randrange(3)
+        number = pick.below(3)
         parts[number] = other()[number]
         command = (pick.choice(["run", "check"]), "run", "check")[number]
     if kind == "values of parameters":
@@ -533,14 +552,14 @@ def damaged(
             for it in words
         ]
         if words and pick.random() < 0.3:
-            del words[pick.randrange(len(words))]
+            del words[pick.below(len(words))]
     bundle = bundled(*parts)
     if kind == "words":
         command, *words = changed_words(pick, command, words)
     if kind == "bundle: bytes":
         bundle = changed_bytes(pick, bundle)
     if kind == "bundle: cut":
-        bundle = bundle[: pick.randrange(len(bundle) + 1)]
+        bundle = bundle[: pick.below(len(bundle) + 1)]
     return kind, command, words, bundle
 
 
@@ -552,12 +571,24 @@ class Job:
 
     def __init__(self, program: str, seed: int, keep: str) -> None:
         self.program, self.seed, self.keep = program, seed, keep
+        self.server = asking.Server()
         self.counts: Counter[str] = Counter()
+        # What `net` came to, by what it was given, for the program that is looked at.
+        self.nets: dict[tuple[tuple[str, ...], bytes], End] = {}
         self.differences = 0
         self.kilobytes, self.seconds = 0, 0.0
 
     def run(self, number: int, command: str, words: Sequence[str], bundle: bytes, policy: Sequence[str] = ()) -> End:
-        end = asking.ask(self.program, [command, *words, *policy], bundle, MOST_SECONDS)
+        """How a command ends. What `net` came to on the same words and bundle isn't asked again."""
+        if command != "net":
+            return self.run_once(number, command, words, bundle, policy)
+        given = (*words, *policy), bundle
+        if given not in self.nets:
+            self.nets[given] = self.run_once(number, command, words, bundle, policy)
+        return self.nets[given]
+
+    def run_once(self, number: int, command: str, words: Sequence[str], bundle: bytes, policy: Sequence[str]) -> End:
+        end = self.server.ask(self.program, [command, *words, *policy], bundle, MOST_SECONDS)
         self.counts["runs"] += 1
         self.kilobytes, self.seconds = max(self.kilobytes, end.kilobytes), max(self.seconds, end.cpu)
         if end.hung or end.status < 0 or end.kilobytes > MOST_KILOBYTES:
@@ -575,10 +606,10 @@ class Job:
         self.differences += 1
         print(f"{name}: {str(got)[:300]} for {str(wanted)[:300]}", flush=True)
 
-    def wanted(self, words: Sequence[str], bundle: bytes) -> Outcome | None:
+    def wanted(self, words: Sequence[str], bundle: bytes, trace: bool = False) -> Outcome | None:
         """What these words and this bundle come to, or None where that can't be judged here."""
         try:
-            return meaning.outcome(words, bundle)
+            return meaning.outcome(words, bundle, trace)
         except (SyntaxError, MemoryError, RecursionError) as error:
             self.counts["not judged, " + type(error).__name__] += 1
             return None
@@ -601,17 +632,18 @@ class Job:
         self.counts["compared"] += 1
         return end
 
-    def program_of(self, number: int) -> tuple[random.Random, Source, bytes]:
-        pick = random.Random(f"{self.seed}:{number}")
+    def program_of(self, number: int) -> tuple[Pick, Source, bytes]:
+        pick = Pick(f"{self.seed}:{number}")
         source = Source(pick)
         return pick, source, source.data()
 
     def one(self, number: int) -> None:
+        self.nets.clear()
         pick, source, data = self.program_of(number)
         words = source.words
         policy: list[str] = pick.choice([[], ["--policy=seq"], ["--policy", "down"], ["--policy=down"]])
         bundle = bundled(source.source, data)
-        answer = self.wanted(["run", *words, *policy], bundle)
+        answer = self.wanted(["run", *words, *policy], bundle, True)
         ends = {command: self.compare(number, command, words, bundle, answer, policy) for command in ("run", "seq")}
         self.counts[f"programs, status {ends['run'].status}"] += 1
         # the other commands pass over the data
@@ -707,7 +739,7 @@ class Job:
         if trim != wanted:
             self.differ(number, "trim", words, bundle, trim, wanted)
 
-    def damage(self, pick: random.Random, number: int, source: Source, data: bytes, cert: bytes) -> None:
+    def damage(self, pick: Pick, number: int, source: Source, data: bytes, cert: bytes) -> None:
         def other() -> list[bytes]:
             _, source, data = self.program_of(number + 1)
             return [source.source, data, cert[: len(cert) // 2]]
@@ -722,9 +754,13 @@ def run_numbers(program: str, seed: int, keep: str, space: int, numbers: Sequenc
     if space:
         asking.keep_below(space)
     sys.setrecursionlimit(20000)
+    # Circles of garbage are few, and are looked for between the programs' numbers.
+    gc.disable()
     job = Job(program, seed, keep)
     for number in numbers:
         job.one(number)
+    job.server.close()
+    gc.collect()
     return job.counts, job.differences, job.kilobytes, job.seconds, len(numbers)
 
 
@@ -745,7 +781,8 @@ def main() -> int:
     differences = kilobytes = done = 0
     seconds = 0.0
     start = time.time()
-    asking.starter()
+    asking.starter("serve")
+    gc.freeze()
     with ProcessPoolExecutor(given.jobs) as pool:
         under_way: set[Future[tuple[Counter[str], int, int, float, int]]] = set()
         while True:

@@ -15,7 +15,8 @@ Every run has a stack of 8 MB, 4 GB of address space and 300 seconds of processo
   announce  certificates that announce much and bring little
   bundle    sources and data of 64 MiB
   threads   64, 63 and 62 processes where each start of a thread is refused in turn, with all later ones: by a shim before the C
-            library, and by the system's own limit on tasks; the same of `load` and of `trace`; and on few processors
+            library, and by the system's own limit on tasks; the same of `load` and of `trace`; on few processors; and the memory of a
+            run by threads beside that of one where none starts
 
 Behind its tables each section prints one of those of its runs that take 2 seconds of a processor, or 256 MB, and how many there were.
 tools/docs/pages.py puts these into docs/SECURITY.md, of a file with the output of all sections.
@@ -198,7 +199,7 @@ def least_stack(program: str, name: str, words: Sequence[str], bundle: bytes, en
     low, high = 16, 8192
     while high > low * 1.1 and high - low > 16:
         middle = (low + high) // 2
-        there = ask(program, words, bundle, middle, 30)
+        there = ask(program, words, bundle, middle)
         # a trace is of any run, so no two need have the same text
         is_same = there.status == end.status if words[0] == "trace" else there.said == end.said
         low, high = (low, middle) if is_same else (middle, high)
@@ -264,11 +265,21 @@ def writer_sources() -> Iterator[tuple[str, bytes, int, bool]]:
         yield f"62 writers that never write in six loops, {place}", guarded(
             "ijklmn", 62, lambda number: [f"i >= N + {number}"], is_inside
         ), 4, False
-    for writers, is_large in [(4, False), (40, True)]:
+    for writers, is_large in [(4, False), (10, False), (20, False), (40, True)]:
         yield f"{writers} writers under 2 guards in three loops, inside", guarded(
             "ijk", writers, lambda number: [f"i - j > {number}", f"k >= {writers - number}"], True
         ), 64, is_large
-    for writers, guards, is_large in [(3, 8, False), (6, 16, True), (20, 16, True), (47, 4, True), (47, 20, True)]:
+    for writers, guards, is_large in [
+        (3, 8, False),
+        (12, 4, False),
+        (24, 4, False),
+        (47, 4, True),
+        (6, 16, True),
+        (20, 16, True),
+        (12, 20, True),
+        (24, 20, True),
+        (47, 20, True),
+    ]:
         yield f"{writers} writers under {guards} guards in six loops, behind", guarded(
             "ijklmn", writers, differences(guards, writers), False
         ), 10_000, is_large
@@ -279,7 +290,7 @@ def writers(program: str) -> None:
     may also end with 10, or not in its time."""
     rows = []
     for name, source, n, is_large in shared(writer_sources()):
-        row = [name]
+        row, nodes = [name], ""
         net = ask(program, ["net", f"N={n}"], source).output if n <= 64 else b""
         for command in ("deps", "cert") if n <= 64 else ("deps",):
             words = [command, f"N={n}"]
@@ -290,6 +301,8 @@ def writers(program: str) -> None:
                 row += [told(end), f"{end.cpu:.2f}", megabytes(end), ""]
                 continue
             well = judge(name, command, end, wanted, None if is_large else MOST_OF_CHECK)
+            if command == "deps":
+                nodes = str(max(len(re.findall(rb"(?m)^[tdwzx]\b", tree)) for tree in end.output.split(b"\nread ")))
             if command == "cert" and b"\nsweep\n" in end.output and not is_large:
                 BAD.append(f"{name}: `cert` has `sweep`")
             if command == "cert":
@@ -297,9 +310,9 @@ def writers(program: str) -> None:
                 judge(name, "check", checked, (0, b"accepted\n", b""), None if is_large else MOST_OF_CHECK)
             stack = f"{least_stack(program, name, words, source, end)} kB" if end.cpu < 5 else ""
             row += [str(wanted[0]) if well else told(end), f"{end.cpu:.2f}", megabytes(end), stack]
-        rows.append([*row, *[""] * (9 - len(row))])
+        rows.append([row[0], nodes, *row[1:], *[""] * (9 - len(row))])
         print(rows[-1], file=sys.stderr, flush=True)
-    table(["Source", "deps", "s", "MB", "Least stack", "cert", "s", "MB", "Least stack"], rows)
+    table(["Source", "Nodes", "deps", "s", "MB", "Least stack", "cert", "s", "MB", "Least stack"], rows)
 
 
 def repeat_texts() -> Iterator[tuple[str, bytes, bytes]]:
@@ -754,29 +767,47 @@ def bundle(program: str) -> None:
 
 
 def threads(program: str) -> None:
-    source, data, words = pipeline(62, 20)
-    bundle = bundled(source, data)
-    plain = asking.ask(program, ["run", *words], bundle)
-    judge("64 processes", "run", plain, asking.ask(program, ["seq", *words], bundle).said)
-    rows = [["no limit, 20 items", told(plain)[:20], f"{plain.cpu:.2f}", megabytes(plain)]]
-    source, data, long_words = pipeline(62, 16384)
-    for count in (1, 2, 4):
+    for part in shared([on_processors, refused_by_shim, refused_by_system, kept_once]):
+        part(program)
+        print()
+
+
+def on_processors(program: str) -> None:
+    """64 processes on few processors."""
+    rows = []
+    for name, (source, data, words) in (("20 items", pipeline(62, 20)), ("16,384 items", pipeline(62, 16384))):
+        bundle = bundled(source, data)
+        wanted = asking.ask(program, ["seq", *words], bundle, SECONDS).said
         cpus = sorted(os.sched_getaffinity(0))
-        if len(cpus) < count:
-            continue
-        os.sched_setaffinity(0, cpus[:count])
-        for name, given, text in (("20 items", words, bundle), ("16,384 items", long_words, bundled(source, data))):
-            wanted = asking.ask(program, ["seq", *given], text, SECONDS)
-            end = asking.ask(program, ["run", *given], text, SECONDS)
-            judge(f"64 processes on {count} processors, {name}", "run", end, wanted.said)
+        for count in (1, 2, 4, len(cpus)):
+            if len(cpus) < count:
+                continue
+            os.sched_setaffinity(0, cpus[:count])
+            end = asking.ask(program, ["run", *words], bundle, SECONDS)
+            judge(f"64 processes on {count} processors, {name}", "run", end, wanted)
             rows.append([f"{count} processors, {name}", told(end)[:20], f"{end.cpu:.2f}", megabytes(end)])
             print(rows[-1], file=sys.stderr, flush=True)
         os.sched_setaffinity(0, cpus)
     table(["64 processes, by `run`", "Status, first bytes", "s", "MB"], rows)
-    print()
-    refused_by_shim(program)
-    print()
-    refused_by_system(program, words, bundle, plain)
+
+
+def kept_once(program: str) -> None:
+    """A run keeps each value once: the threads do, or where none starts the run along the schedule. One that threw away what its threads
+    found would keep it twice, to the same answer."""
+    count = 1_000_000
+    source = b"param N; out a; for (i = 0; i < N; i++) a = a + i;"
+    wanted = 0, b"a,%d\n" % (count * (count - 1) // 2), b""
+    with tempfile.TemporaryDirectory() as folder:
+        shim = asking.compiled("shim.c", os.path.join(folder, "shim.so"), "-shared", "-fPIC", "-ldl")
+        by_schedule, by_threads = (
+            asking.ask(program, ["run", f"N={count}"], source, SECONDS, {**os.environ, "LD_PRELOAD": shim, **refused})
+            for refused in ({"HOSTILE_START": "1"}, {})
+        )
+    judge(f"a chain of {count:,} turns, no thread starts", "run", by_schedule, wanted)
+    # half of the values, of 8 bytes each, are left to chance
+    judge(f"a chain of {count:,} turns, by threads", "run", by_threads, wanted, by_schedule.kilobytes + count * 4 // KILO)
+    rows = [[name, megabytes(end)] for name, end in (("no thread starts", by_schedule), ("by threads", by_threads))]
+    table([f"A chain of {count:,} turns, by `run`", "MB"], rows)
 
 
 def grouped(rows: Iterable[tuple[int, str, float]]) -> list[list[object]]:
@@ -839,8 +870,12 @@ def refused_by_shim(program: str) -> None:
     table(["Command", "The first start that is refused", "Statuses", "The longest, s"], rows)
 
 
-def refused_by_system(program: str, words: Sequence[str], bundle: bytes, plain: End) -> None:
+def refused_by_system(program: str) -> None:
     """64 processes as a user who may have so many tasks."""
+    source, data, words = pipeline(62, 20)
+    bundle = bundled(source, data)
+    plain = asking.ask(program, ["run", *words], bundle)
+    judge("64 processes", "run", plain, asking.ask(program, ["seq", *words], bundle).said)
     setpriv = shutil.which("setpriv")
     if os.geteuid() != 0 or not setpriv:
         print("not root, or no setpriv: the system's limit on tasks wasn't tried")

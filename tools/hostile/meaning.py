@@ -7,6 +7,8 @@ or compared. A refusal is worked out with its place. It is a test's other side, 
 from __future__ import annotations
 
 import collections
+import functools
+import itertools
 import re
 import sys
 from collections.abc import Callable, Iterable, Iterator, Mapping, Sequence
@@ -37,10 +39,13 @@ Outcome = tuple[int, bytes | None, bytes]
 sys.set_int_max_str_digits(0)
 BUNDLE_LIMIT = 67_108_864
 SIZE_LIMIT = 8_388_608
+# Loops above this size are counted before they are run.
+SHORT = 20_000
 TOKEN_LIMIT = 8192
 LARGE = 2_147_483_647
 LOOP_VALUE = 1 << 62
 HALF, MASK = 1 << 63, (1 << 64) - 1
+LETTERS = b"ABCDEFGHIJKLMNOPQRSTUVWXYZabcdefghijklmnopqrstuvwxyz_"
 RESERVED = set(b"param in out inout var int for if else min max".split())
 # Of several reasons at one place the first in this order is told.
 REASONS = "UnknownName Duplicate Unbound NotAffine WrongCount ElseForm TooManyProcesses TooDeep TooManyReads TooManyRows Large StepMax StepRange".split()
@@ -55,8 +60,21 @@ class Refused(Exception):
         self.status, self.line = status, line
 
 
+class Long(Exception):
+    """Loops that are long, and may be refused."""
+
+
+def too_large() -> Refused:
+    return Refused(8, f"limit: Size {SIZE_LIMIT + 1}")
+
+
 def wrap(value: int) -> int:
     return ((value + HALF) & MASK) - HALF
+
+
+def wrapped(text: str) -> str:
+    """Python's text of what `wrap` gives for this one."""
+    return f"((({text})+{HALF}&{MASK})-{HALF})"
 
 
 # ------------------------------------------------------------------------------------------------------------- the bundle
@@ -79,31 +97,35 @@ def parts_of(bundle: bytes) -> list[bytes | None]:
 
 # ------------------------------------------------------------------------------------------------------------- the tokens
 
-SPACE = re.compile(rb"[ \t\n\r]+|//[^\n]*|/\*.*?\*/", re.S)
-TOKEN = re.compile(rb"([A-Za-z_][A-Za-z_0-9]*)|([0-9]+)|(<=|>=|==|\+\+|\+=|&&|[()\[\]{};,=<>+\-*])")
+# White space and comments, which may be none, and the token behind them, the end, or a byte that no token begins with.
+PIECE = re.compile(
+    rb"((?>[ \t\n\r]+|//[^\n]*|/\*.*?\*/)*+)([A-Za-z_][A-Za-z_0-9]*|[0-9]+|<=|>=|==|\+\+|\+=|&&|[()\[\]{};,=<>+\-*]|\Z|.)", re.S
+)
+SIGNS = {it.encode(): it for it in "<= >= == ++ += && ( ) [ ] { } ; , = < > + - *".split()}
+KINDS = {**SIGNS, **{it: "reserved " + it.decode() for it in RESERVED}}
+
+
+def kind_of(text: bytes) -> str | None:
+    """The kind of a token, or None where it is none: a large number, or a byte that no token begins with."""
+    if text[0] in b"0123456789":
+        return "number" if int(text) < HALF else None
+    return "name" if text[0] in LETTERS else None
 
 
 def tokens_of(source: bytes) -> list[Token]:
     """The tokens: kind, text and place. The kind of a sign or a reserved word is its text."""
-    found: list[Token] = []
-    at = 0
-    while at < len(source):
-        space = SPACE.match(source, at)
-        if space:
-            at = space.end()
-            continue
-        token = TOKEN.match(source, at)
-        if not token:
-            raise Refused(6, f"text: {'OpenComment' if source.startswith(b'/*', at) else 'BadByte'} {at}")
-        word, digits, sign = token.groups()
-        if digits and int(digits) > HALF - 1:
-            raise Refused(6, f"text: LargeNumber {at}")
-        if len(found) == TOKEN_LIMIT:
-            raise Refused(6, f"text: TooMany {at}")
-        kind = ("reserved " + word.decode() if word in RESERVED else "name") if word else "number" if digits else sign.decode()
-        found.append((kind, token.group(), at))
-        at = token.end()
-    return found
+    pieces = PIECE.findall(source)
+    texts = [text for _, text in pieces if text]
+    places = list(itertools.accumulate(map(len, itertools.chain.from_iterable(pieces))))[::2]
+    kinds = {**KINDS, **{it: kind_of(it) for it in set(texts).difference(KINDS)}}
+    if len(texts) > TOKEN_LIMIT or None in kinds.values():
+        for number, (text, at) in enumerate(zip(texts, places)):
+            if kinds[text] is None:
+                is_number, is_comment = text[0] in b"0123456789", source.startswith(b"/*", at)
+                raise Refused(6, f"text: {'LargeNumber' if is_number else 'OpenComment' if is_comment else 'BadByte'} {at}")
+            if number == TOKEN_LIMIT:
+                raise Refused(6, f"text: TooMany {at}")
+    return list(zip([kinds[it] for it in texts], texts, places))
 
 
 # ------------------------------------------------------------------------------------------------------------ the grammar
@@ -114,10 +136,11 @@ class Parser:
 
     def __init__(self, source: bytes) -> None:
         self.tokens = tokens_of(source) + [("end", b"", len(source))]
+        self.kinds = [it[0] for it in self.tokens]
         self.at = 0
 
     def kind(self) -> str:
-        return self.tokens[self.at][0]
+        return self.kinds[self.at]
 
     def fail(self) -> NoReturn:
         raise Refused(6, f"text: Syntax {self.tokens[self.at][2]}")
@@ -132,10 +155,10 @@ class Parser:
 
     def has(self, kind: str) -> bool:
         """Takes the next token if it is of this kind."""
-        if self.kind() == kind:
-            self.at += 1
-            return True
-        return False
+        if self.kinds[self.at] != kind:
+            return False
+        self.at += 1
+        return True
 
     def name(self) -> tuple[str, int]:
         _, text, at = self.take("name")
@@ -227,14 +250,14 @@ class Parser:
 
     def sum(self) -> Tree:
         left = self.product()
-        while self.kind() in "+-":
+        while self.kinds[self.at] in ("+", "-"):
             sign, _, at = self.take("+", "-")
             left = "two", sign, at, left, self.product()
         return left
 
     def product(self) -> Tree:
         left = self.factor()
-        while self.kind() == "*":
+        while self.kinds[self.at] == "*":
             at = self.take("*")[2]
             left = "two", "*", at, left, self.factor()
         return left
@@ -262,6 +285,22 @@ class Parser:
 # ------------------------------------------------------------------------------------------------------------ the binding
 
 NO_VARIABLE = (0,) * 6
+
+
+def scaled(by: int, coefficients: tuple[int, ...]) -> tuple[int, ...]:
+    return coefficients if by == 1 or coefficients is NO_VARIABLE else tuple([by * it for it in coefficients])
+
+
+def added(a: tuple[int, ...], b: tuple[int, ...]) -> tuple[int, ...]:
+    return a if b is NO_VARIABLE else b if a is NO_VARIABLE else tuple([x + y for x, y in zip(a, b)])
+
+
+def size_of_turn(body: Tree) -> int:
+    """What one turn of a loop with this body counts, or 0 where that isn't known before, since the body has loops or guards."""
+    if body[0] == "set":
+        return 2
+    sizes = [size_of_turn(it) for it in body[1]] if body[0] == "block" else [0]
+    return 1 + sum(sizes) - len(sizes) if all(sizes) else 0
 
 
 class Array:
@@ -312,7 +351,11 @@ class Program:
         self.writes: list[tuple[int, bool, int] | None] = [(it.number, True, 0) for it in given]
         # the coefficients of the rows of the loops and guards around
         self.domain: list[tuple[int, ...]] = []
-        self.code: dict[str, list[str]] = {"values": [], "trace": []}
+        self.code: dict[str, list[str]] = {"values": [], "trace": [], "both": [], "size": []}
+        # those of them that what is read now becomes, and whether its size is counted before
+        self.kinds, self.is_counted = tuple(self.code), False
+        # the greatest that the turn of each loop around may be, by its absolute value
+        self.reach = [0] * 6
         self.rows = 0
         self.depth = 0
         # What was made of the code, and what was found by it.
@@ -334,10 +377,11 @@ class Program:
         self.found.append((at, REASONS.index(reason), reason))
 
     def limited(self, at: int, form: Form) -> Form | None:
-        if abs(form[0]) > LARGE or any(abs(it) > LARGE for it in form[1]):
-            self.blame("Large", at)
-            return None
-        return form
+        constant, coefficients = form
+        if -LARGE <= constant <= LARGE and (coefficients is NO_VARIABLE or -LARGE <= min(coefficients) and max(coefficients) <= LARGE):
+            return form
+        self.blame("Large", at)
+        return None
 
     def form(self, tree: Tree, is_extent: bool = False) -> Form | None:
         """The affine form of a place: a constant and six coefficients, or None where a reason was found."""
@@ -346,7 +390,7 @@ class Program:
             return self.limited(at, (tree[2], NO_VARIABLE))
         if kind == "minus":
             inner = self.form(tree[2], is_extent)
-            return inner and self.limited(at, (-inner[0], tuple(-it for it in inner[1])))
+            return inner and self.limited(at, (-inner[0], scaled(-1, inner[1])))
         if kind == "name":
             _, _, name, subscripts = tree
             for it in subscripts:
@@ -371,9 +415,9 @@ class Program:
                     self.blame("NotAffine", at)
                     return None
                 by, of = (b, a) if any(a[1]) else (a, b)
-                return self.limited(at, (by[0] * of[0], tuple(by[0] * it for it in of[1])))
+                return self.limited(at, (by[0] * of[0], scaled(by[0], of[1])))
             factor = 1 if sign == "+" else -1
-            return self.limited(at, (a[0] + factor * b[0], tuple(x + factor * y for x, y in zip(a[1], b[1]))))
+            return self.limited(at, (a[0] + factor * b[0], added(a[1], scaled(factor, b[1]))))
         for it in tree[2]:
             self.form(it, is_extent)
         self.blame("NotAffine", at)
@@ -423,13 +467,17 @@ class Program:
             return f"({value})" if what == "param" else f"v_{name}"
         if kind == "two":
             return f"({self.value(tree[3], reads)}{tree[1]}{self.value(tree[4], reads)})"
-        return f"{kind}({','.join(f'W({self.value(it, reads)})' for it in tree[2])})"
+        return f"{kind}({','.join([wrapped(self.value(it, reads)) for it in tree[2]])})"
 
     def cell(self, number: int, subscripts: list[Tree]) -> str:
         return "(" + ",".join([str(number), *map(self.affine, subscripts)]) + ",)"
 
+    def most_of(self, form: Form) -> int:
+        """A bound of what a form may be, by its absolute value."""
+        return abs(form[0]) + sum([abs(c) * it for c, it in zip(form[1], self.reach) if c])
+
     def emit(self, text: str, *kinds: str) -> None:
-        for kind in kinds or self.code:
+        for kind in kinds or self.kinds:
             self.code[kind].append(text)
 
     def statement(self, tree: Tree, indent: str) -> Tree:
@@ -468,18 +516,33 @@ class Program:
                 self.blame("StepMax", step[0])
         if self.depth >= 6:
             return
-        at_least, at_most = ",".join(map(self.affine, lowers)), ",".join(f"{self.affine(it)}{'' if inclusive else '-1'}" for it in uppers)
+        least, most = [self.affine(it) for it in lowers], [self.affine(it) + ("" if inclusive else "-1") for it in uppers]
         d = len(indent)
-        self.emit(f"{indent}a{d}=({at_least},);b{d}=({at_most},)")
-        self.emit(f"{indent}if max(a{d})>Q or min(a{d})<-Q or max(b{d})>Q or min(b{d})<-Q: raise Refused(8,'limit: LoopValue {number}')")
+        most_low, most_high = max(map(self.most_of, forms)), max(map(self.most_of, ends)) + 1
+        if max(most_low, most_high) > LOOP_VALUE:
+            self.emit(f"{indent}a{d}=({','.join(least)},);b{d}=({','.join(most)},)")
+            far = f"max(a{d})>Q or min(a{d})<-Q or max(b{d})>Q or min(b{d})<-Q"
+            self.emit(f"{indent}if {far}: raise X if n>L else Refused(8,'limit: LoopValue {number}')")
+            low, high = f"max(a{d})", f"min(b{d})"
+        else:
+            low, high = (f"{word}({','.join(it)})" if len(it) > 1 else it[0] for word, it in (("max", least), ("min", most)))
+        each = size_of_turn(body)
+        if each:
+            # Nothing in such a loop is refused but its size, so all its turns are counted at once, and "size" has no more of it.
+            self.emit(f"{indent}a{d}={low};b{d}={high};n+={each}*max(0,(b{d}-a{d})//{by}+1)")
+            self.emit(f"{indent}if n>L: raise X")
+            low, high = f"a{d}", f"b{d}"
+            self.is_counted, self.kinds = True, ("values", "trace", "both")
         turn = f"v_{name}"
         if by > 1:
             turn = f"t{d}"
-            self.emit(f"{indent}for {turn},v_{name} in enumerate(range(max(a{d}),min(b{d})+1,{by})):")
+            self.emit(f"{indent}for {turn},v_{name} in enumerate(range({low},{high}+1,{by})):")
         else:
-            self.emit(f"{indent}for v_{name} in range(max(a{d}),min(b{d})+1):")
-        self.emit(f"{indent} n+=1")
-        self.emit(f"{indent} if n>L: raise Refused(8,'limit: Size {SIZE_LIMIT + 1}')")
+            self.emit(f"{indent}for v_{name} in range({low},{high}+1):")
+        if not each:
+            self.emit(f"{indent} n+=1")
+            self.emit(f"{indent} if n>L: raise X")
+        self.reach[self.depth] = (most_low + most_high) // by + 1 if by > 1 else max(most_low, most_high)
         is_new = name not in self.scope
         if is_new:
             coefficients = tuple(by if it == self.depth else 0 for it in range(6))
@@ -498,6 +561,7 @@ class Program:
         self.depth += 1
         self.turns.append(turn)
         self.statement(body, indent + " ")
+        self.is_counted, self.kinds = False, tuple(self.code)
         self.turns.pop()
         self.depth -= 1
         self.rows -= more
@@ -550,12 +614,13 @@ class Program:
         self.arrays_read.append(self.arrays_now)
         target = self.cell(array.number if what == "array" else 0, subscripts)
         self.reads.append(len(reads))
-        self.emit(f"{indent}n+=1")
-        self.emit(f"{indent}if n>L: raise Refused(8,'limit: Size {SIZE_LIMIT + 1}')")
-        self.emit(f"{indent}M[{target}]=W({text})", "values")
-        self.emit(f"{indent}S[{number}].append(({''.join(f'G({it}),' for it in reads)}))", "trace")
-        self.emit(f"{indent}M[{target}]=({number},len(P[{number}]))", "trace")
-        self.emit(f"{indent}P[{number}].append(({''.join(it + ',' for it in self.turns)}))", "trace")
+        if not self.is_counted:
+            # that it isn't one too many is looked at by the next turn, by the next refusal, or at the end
+            self.emit(f"{indent}n+=1")
+        tags = "".join([f"H({it})," for it in reads])
+        self.emit(f"{indent}M[{target}]={wrapped(text)}", "values", "both")
+        self.emit(f"{indent}S[{number}].append(({tags}));T[{target}]=({number},len(P[{number}]))", "trace", "both")
+        self.emit(f"{indent}P[{number}].append(({''.join(it + ',' for it in self.turns)}))", "trace", "both")
 
     def has_tree(self, array: int) -> bool:
         """Whether every write of an array is by differences of loop variables or by strides, of which there are at most 6."""
@@ -567,13 +632,22 @@ class Program:
 
     # Runs
 
-    def walk(self, kind: str, memory: Memory, points: Any, sources: Any, size: int) -> int:
+    def walk(self, kind: str, start: tuple[Any, ...], size: int, limit: int, above: Exception) -> int:
+        """Runs the loops on what they start with, and counts on from this size. One above the limit raises this."""
         if kind not in self.bodies:
-            text = "\n".join(["def body(M,P,S,n):", "  G=M.get", *self.code[kind], "  return n"])
-            known: dict[str, Any] = {"Refused": Refused, "W": wrap, "L": SIZE_LIMIT, "Q": LOOP_VALUE}
+            text = "\n".join(["def body(M,T,P,S,n,L,X):", "  G=M.get;H=T.get", *self.code[kind], "  if n>L: raise X", "  return n"])
+            known: dict[str, Any] = {"Refused": Refused, "Q": LOOP_VALUE}
             exec(compile(text, "source", "exec"), known)
             self.bodies[kind] = known["body"]
-        return self.bodies[kind](memory, points, sources, size)
+        return self.bodies[kind](*start, size, limit, above)
+
+    def check_size(self) -> None:
+        """Raises what is refused of the loops and their size."""
+        if not self.has_size:
+            size = self.counted(0, [it for it in self.arrays if it.is_given])
+            size = self.walk("size", ({}, {}, None, None), size, SIZE_LIMIT, too_large())
+            self.counted(size, [it for it in self.arrays if it.is_printed])
+            self.has_size = True
 
     def size_of(self, array: Array) -> int:
         """The size of an array's loops, or a number above the limit."""
@@ -587,43 +661,51 @@ class Program:
         for it in arrays:
             size += self.size_of(it)
             if size > SIZE_LIMIT:
-                raise Refused(8, f"limit: Size {SIZE_LIMIT + 1}")
+                raise too_large()
         return size
 
-    def outputs(self, given: Mapping[int, list[int]]) -> list[tuple[str, list[int]]]:
-        """The values of each printed array, where these are given, by number."""
-        memory: Memory = {}
+    def run(self, given: Mapping[int, list[int]], values: bool, trace: bool) -> Memory:
+        """Runs the loops where these cells are given, by number, for the values, for the last writers, or for both. Of long ones it is found
+        before whether they are refused."""
         size = self.counted(0, [it for it in self.arrays if it.is_given])
-        for it in self.arrays:
+        limit = SIZE_LIMIT if self.has_size else SHORT
+        memory, tags = {}, {}
+        points: list[list[Point]] = [[] for _ in self.reads]
+        sources: list[list[Any]] = [[] for _ in self.reads]
+        for it in self.arrays if values else ():
             if it.number in given:
                 memory.update(((it.number, *at), value) for at, value in zip(cells_of(it.extents), given[it.number]))
-        size = self.walk("values", memory, None, None, size)
+        for number, it in enumerate(it for it in self.arrays if it.is_given) if trace else ():
+            points[number] = cells_of(it.extents)
+            sources[number] = [()] * len(points[number])
+            tags.update(((it.number, *at), (number, turn)) for turn, at in enumerate(points[number]))
+        try:
+            kind = "both" if values and trace else "values" if values else "trace"
+            size = self.walk(kind, (memory, tags, points, sources), size, limit, Long())
+        except Long:
+            self.check_size()
+            return self.run(given, values, trace)
         printed = [it for it in self.arrays if it.is_printed]
         self.counted(size, printed)
-        return [(it.name, [memory.get((it.number, *at), 0) for at in cells_of(it.extents)]) for it in printed]
+        self.has_size = True
+        if trace:
+            for number, it in enumerate(printed, len(self.reads) - len(printed)):
+                points[number] = cells_of(it.extents)
+                sources[number] = [(tags.get((it.number, *at)),) for at in points[number]]
+            self.traced = points, sources
+        return memory
+
+    def outputs(self, given: Mapping[int, list[int]], trace: bool = False) -> list[tuple[str, list[int]]]:
+        """The values of each printed array, where these are given, by number. Where it is said that the trace is asked for later, it is
+        found in the same run."""
+        memory = self.run(given, True, trace and self.traced is None)
+        return [(it.name, [memory.get((it.number, *at), 0) for at in cells_of(it.extents)]) for it in self.arrays if it.is_printed]
 
     def trace(self) -> tuple[list[list[Point]], list[list[Any]]]:
         """For each process its points, and for each of them the last writer of each read, as (process, turn) or None."""
-        if self.traced is not None:
-            return self.traced
-        memory: Memory = {}
-        processes = len(self.reads)
-        points: list[list[Point]] = [[] for _ in range(processes)]
-        sources: list[list[Any]] = [[] for _ in range(processes)]
-        size = self.counted(0, [it for it in self.arrays if it.is_given])
-        for number, it in enumerate(it for it in self.arrays if it.is_given):
-            for turn, at in enumerate(cells_of(it.extents)):
-                memory[(it.number, *at)] = number, turn
-                points[number].append(at)
-                sources[number].append(())
-        size = self.walk("trace", memory, points, sources, size)
-        printed = [it for it in self.arrays if it.is_printed]
-        self.counted(size, printed)
-        for number, it in enumerate(printed, processes - len(printed)):
-            for at in cells_of(it.extents):
-                points[number].append(at)
-                sources[number].append((memory.get((it.number, *at)),))
-        self.traced = points, sources
+        if self.traced is None:
+            self.run({}, False, True)
+        assert self.traced is not None
         return self.traced
 
 
@@ -750,19 +832,27 @@ CLASSES = {b"inorder": (False, False), b"inorder+": (False, True), b"reorder": (
 CLASS_WORDS = {value: word.decode() for word, value in CLASSES.items()}
 
 
+SMALL = {b"%d" % it: it for it in range(1000)}
+NATURAL, NEGATIVE = re.compile(rb"0|[1-9][0-9]*"), re.compile(rb"-[1-9][0-9]*")
+
+
 class Lines:
     """The lines of a certificate, with what is wrong with one."""
 
     def __init__(self, text: bytes) -> None:
-        self.text, self.at, self.line = text, 0, 0
+        self.line = 0
+        # the lines, and what stands behind the last line feed
+        *self.lines, self.rest = text.split(b"\n")
 
     def next(self) -> list[bytes]:
-        end = self.text.find(b"\n", self.at)
-        if end < 0:
+        if self.line == len(self.lines):
             raise Unread("Truncated")
-        line, self.at = self.text[self.at : end], end + 1
         self.line += 1
-        return line.split(b" ")
+        return self.lines[self.line - 1].split(b" ")
+
+    @property
+    def has_more(self) -> bool:
+        return self.line < len(self.lines) or bool(self.rest)
 
     def wrong(self) -> NoReturn:
         raise Unread(f"Line {self.line}")
@@ -772,12 +862,15 @@ class Lines:
         found: list[Any] = []
         is_out = False
         for word in words:
-            if word in more:
+            small = SMALL.get(word)
+            if small is not None:
+                found.append(small)
+            elif word in more:
                 found.append(word)
-            elif re.fullmatch(rb"0|[1-9][0-9]*", word):
+            elif NATURAL.fullmatch(word):
                 found.append(int(word) if len(word) < 20 else 1 << 64)
                 is_out = is_out or found[-1] > 4_294_967_295
-            elif re.fullmatch(rb"-[1-9][0-9]*", word):
+            elif NEGATIVE.fullmatch(word):
                 is_out = True
             else:
                 self.wrong()
@@ -860,8 +953,10 @@ def swept(text: bytes) -> bytes:
     return re.sub(rb"(?m)^tree\n(?:[tdwmzxscb](?: [^\n]*)?\n)+", b"sweep\n", text)
 
 
+@functools.lru_cache(4)
 def certificate_of(text: bytes) -> Certificate:
-    """Processes as (slots, events), channels as (writer, reader, read, capacity, class), the count of sources, and the schedule."""
+    """Processes as (slots, events), channels as (writer, reader, read, capacity, class), the count of sources, and the schedule. What was
+    read of a text is there for all who ask for it, to be left as it is."""
     lines = Folded(text)
     lines.version()
     counts = lines.numbers(lines.shaped(b"sizes", 4))
@@ -880,7 +975,7 @@ def certificate_of(text: bytes) -> Certificate:
     schedule = lines.parts(counts[3], lines.entry)
     if lines.next() != [b"end"]:
         lines.wrong()
-    if lines.at < len(text):
+    if lines.has_more:
         lines.next()
         lines.wrong()
     events = 0
@@ -1172,9 +1267,10 @@ def order_of(words: Sequence[str]) -> Order | None:
     return (command, values, 0) if command in COMMANDS else None
 
 
-def outcome(words: Sequence[str], bundle: bytes) -> Outcome:
+def outcome(words: Sequence[str], bundle: bytes, trace: bool = False) -> Outcome:
     """What `run`, `seq` and `check` come to, and every refused call: status, output and complaint. The answer of another command
-    isn't known: (0, None, b""). A byte of a word that is no UTF-8 stands as Python has it, as a lone surrogate."""
+    isn't known: (0, None, b""). A byte of a word that is no UTF-8 stands as Python has it, as a lone surrogate. Whether the last writers
+    are asked for later may be said."""
     if any("\udc80" <= letter <= "\udcff" for word in words for letter in word):
         return 11, b"", b""
     order = order_of(words)
@@ -1186,7 +1282,7 @@ def outcome(words: Sequence[str], bundle: bytes) -> Outcome:
             if count > LARGE:
                 raise Refused(8, "limit: Large 6")
             if count > 159:
-                raise Refused(8, f"limit: Size {SIZE_LIMIT + 1}")
+                raise too_large()
             return 0, None, b""
         source, data, certificate = parts_of(bundle)
         if command == "check" and certificate is None:
@@ -1198,14 +1294,15 @@ def outcome(words: Sequence[str], bundle: bytes) -> Outcome:
                 given = inputs_of(program.arrays, data or b"")
             except Refused as refused:
                 fault = refused
-            answer = program.outputs(given)
-            if fault:
-                raise fault
-            lines = (",".join([name, *map(str, cells)]) + "\n" for name, cells in answer)
-            return 0, "".join(lines).encode() if command != "sim" else None, b""
-        if not program.has_size and (command != "deps" or not program.all_have_trees()):
-            program.outputs({})
-            program.has_size = True
+            if fault or command == "sim":
+                program.check_size()
+                if fault:
+                    raise fault
+                return 0, None, b""
+            answer = program.outputs(given, trace)
+            return 0, "".join([",".join([name, *map(str, cells)]) + "\n" for name, cells in answer]).encode(), b""
+        if command != "deps" or not program.all_have_trees():
+            program.check_size()
         if command != "check":
             return 0, None, b""
         judge(program, certificate_of(certificate))

@@ -3,7 +3,7 @@ mod CheckAnswers
 mod VhdlAnswers
 mod EntryCounts
 mod Loads
-mod TextAnswers
+pub mod TextAnswers
 mod Runs
 mod Sources
 mod StatusNumbers

@@ -6,7 +6,6 @@ use Rattle.sanlp.specs.declared.nest.Nest.{Nest}
 use Rattle.net_core.specs.declared.network.Network.{Network}
 use Rattle.rtl_text.specs.Networks.{rtl_text}
 use Rattle.command_answers.specs.Judging.{Judges}
-use Rattle.command_answers.specs.Printing.{Prints, printed}
 use Rattle.command_answers.specs.Replies.{done}
 use Rattle.command_answers.specs.Source.{GivesWithinSize}
 use Rattle.command_answers.specs.declared.refusal.Refusal.{Refusal}
@@ -40,14 +39,6 @@ undesigned policy params bundle source nest stop is gives =
     (λ refusal step.
     subst (λ (r : Refusal). Designs policy params bundle (Err r)) (sym step.4)
     (script_refused nest step.0 step.1 (nest_is params bundle source (Ok nest) is gives) step.2 step.3))
-
--- a text is written of the nest
-pub printed_of : (text : Nest → List ℕ) (params : List (List ℕ × ℤ)) (bundle source wrote : List ℕ) (nest : Nest)
-    → source ≡ source_part bundle → GivesWithinSize source params (Ok nest) → wrote ≡ text nest
-    → Prints text params bundle (Ok (done wrote))
-printed_of text params bundle source wrote nest is gives same =
-    subst (λ (t : List ℕ). Prints text params bundle (Ok (done t))) (sym same)
-    (printed nest (nest_is params bundle source (Ok nest) is gives))
 
 -- an answer is judged by whether the clocks are asked for
 pub judged_with : (wanted flag : Bool) (policy : Policy) (params : List (List ℕ × ℤ)) (bundle : List ℕ)

@@ -8,7 +8,7 @@ use Rattle.std.proofs.Common.{◌≡◌, ◌≢◌, ℕ, Bool, true, false, not,
 use Rattle.std.specs.Prelude.{nat_eq}
 use Rattle.std.specs.List.{flat_map, list_any}
 use Rattle.std.specs.Cmp.Lexicographic.{other_text, pointwise, same_text}
-use Rattle.std.proofs.lemmas.Bool.{and_from, and_parts, false≢true, or_parts}
+use Rattle.std.proofs.lemmas.Bool.{and_from, and_parts, not-true, or_parts}
 use Rattle.sanlp.specs.WellFormed.{all_differ}
 
 abbrev pub Each : {X : Type 0} → (X → Type 0) → List X → Type 0
@@ -108,10 +108,6 @@ module _ {X K N : Type 0} (name : X → N) (name_of : K → N) where
 
 -- As the test tells it
 
-not_true : (b : Bool) → not b ≡ true → b ≡ false
-not_true true h = absurd (false≢true h)
-not_true false h = refl
-
 other_texts : (x : List ℕ) (ys : List (List ℕ)) → list_any (pointwise nat_eq x) ys ≡ false → Apart x ys
 other_texts x [] none = tt
 other_texts x (y ∷ ys) none =
@@ -122,7 +118,7 @@ pub differ_from : (xs : List (List ℕ)) → all_differ xs ≡ true → Differ x
 differ_from [] h = tt
 differ_from (x ∷ xs) h =
     let parts = and_parts (not (list_any (pointwise nat_eq x) xs)) (all_differ xs) h in
-    (other_texts x xs (not_true (list_any (pointwise nat_eq x) xs) parts.0), differ_from xs parts.1)
+    (other_texts x xs (not-true (list_any (pointwise nat_eq x) xs) parts.0), differ_from xs parts.1)
 
 tested : (x y : List ℕ) → x ≢ y → (b : Bool) → pointwise nat_eq x y ≡ b → pointwise nat_eq x y ≡ false
 tested x y ne true e = absurd (ne (same_text x y (sym e)))

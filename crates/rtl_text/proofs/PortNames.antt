@@ -13,7 +13,7 @@ use Rattle.std.specs.Cmp.Lexicographic.{bytes_decides}
 use Rattle.std.specs.List.{list_any}
 use Rattle.std.specs.Str.{bytes_eq}
 use Rattle.std.specs.Prelude.{nat_le}
-use Rattle.std.proofs.lemmas.Bool.{and_from, and_parts, eqb-true, false≢true, leb-true}
+use Rattle.std.proofs.lemmas.Bool.{and_from, and_parts, eqb-true, false≢true, leb-true, or_right}
 use Rattle.std.proofs.lemmas.List.{append_cancel_right, map-append, reverse-append}
 use Rattle.sanlp.specs.declared.nest.ArrayDecl.{ArrayDecl}
 use Rattle.sanlp.specs.declared.nest.Nest.{Nest}
@@ -181,10 +181,6 @@ read_by m s false plain = refl
 
 abbrev pub has_underscore : List ℕ → Bool
 has_underscore name = list_any (λ byte. eqb byte 95) name
-
-or_right : (a b : Bool) → b ≡ true → (a || b) ≡ true
-or_right true b h = refl
-or_right false b h = h
 
 underscore_behind : (p x : List ℕ) → has_underscore x ≡ true → has_underscore (p ++ x) ≡ true
 underscore_behind [] x h = h

@@ -2,7 +2,7 @@ use Rattle.std.proofs.Common.{ap}
 use Rattle.std.proofs.lemmas.Result.{err_from_is_err_and}
 use Rattle.command_answers.specs.Printing.{Prints, source_refused}
 use Rattle.command_answers.proofs.Stops.{without_nest}
-use Rattle.rtl_answers.proofs.Designs.{printed_of}
+use Rattle.command_answers.proofs.TextAnswers.{prints_text}
 use Rattle.rtl_answers.specs.Answering.{as_reply}
 use Rattle.rtl_answers.specs.Clocking.{clocks_lines, clocks_text}
 use Rattle.rtl_answers.proofs.clocks.count_clocks.Goals as goal
@@ -18,5 +18,5 @@ returns-in_err-nest c =
 
 pub returns : goal.returns
 returns c =
-    printed_of (clocks_text c.args.policy) c.args.params.now c.args.bundle.now c.parts_of-parts.result.source.now _
+    prints_text (clocks_text c.args.policy) c.args.params.now c.args.bundle.now c.parts_of-parts.result.source.now _
     c.in_ok-nest.nest c.parts_of-parts.ensures.source c.in_ok-nest.ensures.0 (ap clocks_lines c.in_ok-told.ensures)

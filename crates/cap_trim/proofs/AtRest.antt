@@ -222,8 +222,8 @@ module _ (n : Net) (wired : IsWired n) where
   least_ends can = (is_least.is_run, λ p. ap (λ (k : Cut). k p) at_rest ∙ ends_at_rest can p)
 
 -- ending is monotone in the capacities
-pub can_end_roomier : (n : Net) (room : ℕ → ℕ) → IsWired n → ((c : ℕ) → n.capacity c ≤ room c) → can_end n ≡ true
-    → can_end (record n { capacity = room }) ≡ true
-can_end_roomier n room wired more can =
+pub can_end_roomier : (n : Net) → IsWired n → (room : ℕ → ℕ) → ((c : ℕ) → c < n.channels → n.capacity c ≤ room c)
+    → can_end n ≡ true → can_end (record n { capacity = room }) ≡ true
+can_end_roomier n wired room more can =
     can_end_by (record n { capacity = room }) (wired_at n room wired) (least_run n)
-    (run_roomier n room more (least_run n) opening (least_cuts n wired)) (ends_at_rest n wired can)
+    (run_roomier n wired room more (least_run n) opening (least_cuts n wired)) (ends_at_rest n wired can)

@@ -114,8 +114,8 @@ module _ (n : Net) (wired : IsWired n) (capacities : List ℕ) (c : ℕ) (there 
     trying_more good unended = record {
       others = λ b. set_twice now c a b ∙ trying.others b;
       kept = good;
-      run = leads_roomier (with_capacity base c a) (with_capacity base c (a + 1)).capacity (roomier a) opening
-          (cut_of next) whole;
+      run = leads_roomier (with_capacity base c a) (tried_wired a) (with_capacity base c (a + 1)).capacity
+          (λ d lt. roomier a d) opening (cut_of next) whole;
       less = λ b lt. elim (cases_lt b a) [
         | inl low ↦ trying.less b low
         | inr ge ↦

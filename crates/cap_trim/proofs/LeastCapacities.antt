@@ -234,7 +234,7 @@ module _ (n : Net) (wired : IsWired n) (can : can_end n ≡ true) (c : ℕ) (the
   lowered_sticks =
       elim (cases_Bool (can_end (lowered_network last c))) [
         | inl on ↦
-            let more = can_end_roomier (lowered_network last c) room lowered_wired roomier on in
+            let more = can_end_roomier (lowered_network last c) lowered_wired room (λ d lt. roomier d) on in
             let less = less_sticks (before n c) c (last.capacity c - 1) (omega (arith, capacity_is, last_some)) in
             absurd (both_ways (can_end (with_capacity (before n c) c (last.capacity c - 1))) less
             (ap can_end (sym same_room) ∙ more))

@@ -43,9 +43,10 @@ pub leads_more : (n : Net) (k m : Cut) (p : ℕ) → LeadsTo n k m → enabled_a
 leads_more n k m p first on = leads_on n k m (advanced m p) first (p ∷ [], (on, tt), refl)
 
 -- the same with more room
-pub leads_roomier : (n : Net) (room : ℕ → ℕ) → ((c : ℕ) → n.capacity c ≤ room c) → (k m : Cut) → LeadsTo n k m
-    → LeadsTo (record n { capacity = room }) k m
-leads_roomier n room more k m first = (first.0, run_roomier n room more first.0 k first.1, first.2)
+pub leads_roomier : (n : Net) → IsWired n → (room : ℕ → ℕ) → ((c : ℕ) → c < n.channels → n.capacity c ≤ room c)
+    → (k m : Cut) → LeadsTo n k m → LeadsTo (record n { capacity = room }) k m
+leads_roomier n wired room more k m first =
+    (first.0, run_roomier n wired room more first.0 k first.1, first.2)
 
 -- Processes that aren't enabled
 

@@ -124,8 +124,8 @@ module _ (n : Net) (wired : IsWired n) (places : List ℕ) (progress : Progress)
     raised_more = record {
       long = length-set places c (get_or places c 0 + 1) ∙ raised.long;
       kept = raised.kept;
-      run = leads_roomier (at_capacities n places) (slice_index (set places c (get_or places c 0 + 1))) roomier opening
-          (cut_of progress) raised.run;
+      run = leads_roomier (at_capacities n places) (wired_at n (slice_index places) wired)
+          (slice_index (set places c (get_or places c 0 + 1))) (λ d lt. roomier d) opening (cut_of progress) raised.run;
       within = λ d. elim (cases_eq d c) [
         | inl same ↦ omega (arith, one_more d same, ap n.capacity same, room)
         | inr other ↦ omega (arith, others d other, raised.within d)
@@ -148,7 +148,7 @@ module _ (n : Net) (wired : IsWired n) (places : List ℕ) (progress : Progress)
         (λ p. ap (λ (k : Cut). k p) (sym raised.run.2) ∙ ended p)
 
     ends : can_end n ≡ true
-    ends = can_end_roomier (at_capacities n places) n.capacity so_wired raised.within so_ends
+    ends = can_end_roomier (at_capacities n places) so_wired n.capacity (λ d lt. raised.within d) so_ends
 
     -- at a channel's turn
     module _ (d : ℕ) (lt : d < n.channels) where
@@ -180,7 +180,8 @@ module _ (n : Net) (wired : IsWired n) (places : List ℕ) (progress : Progress)
 
       ends_then : can_end (with_capacity (trimmed_network_below n d) d (get_or places d 0)) ≡ true
       ends_then =
-          ap can_end (sym same_then) ∙ can_end_roomier (at_capacities n places) room_then so_wired more_then so_ends
+          ap can_end (sym same_then) ∙ can_end_roomier (at_capacities n places) so_wired room_then
+          (λ e lt. more_then e) so_ends
 
       pub is_least : get_or places d 0 ≡ (trimmed_network_below n n.channels).capacity d
       is_least =

@@ -1,5 +1,5 @@
 -- Least capacities: the channels of a network are given them one after the other.
-use Rattle.std.specs.Prelude.{◌≡◌, ◌<◌, ◌-◌, ℕ, zero, suc, List, map, length, slice_index, slice_index_or, []}
+use Rattle.std.specs.Prelude.{◌≡◌, ◌<◌, ◌≤◌, ◌-◌, ℕ, zero, suc, List, map, length, slice_index, slice_index_or, []}
 use Rattle.std.specs.List.{position_or_len, range_with_len}
 use Rattle.net_core.specs.declared.network.Network.{Network}
 use Rattle.net_core.specs.Machine.{Net, start, replaced, IsRun, IsStuck}
@@ -59,6 +59,13 @@ pub record SticksAt (n : Net) (places : List ℕ) : Type 0 where
 abbrev pub SticksBelow : Net → List (List ℕ) → Type 0
 SticksBelow n rests =
     (c : ℕ) → c < n.channels → SticksAt (lowered_network n c) (slice_index_or rests c [])
+
+-- no capacities that are in no channel above these, and below them in some channel, let any run end all
+abbrev pub NoneEndsBelow : Net → (ℕ → ℕ) → Type 0
+NoneEndsBelow n capacities =
+    (lesser : ℕ → ℕ) (c : ℕ) (run : List ℕ) → c < n.channels
+    → ((d : ℕ) → d < n.channels → lesser d ≤ capacities d)
+    → lesser c < capacities c → EndsAll (with_room n lesser) tags run → ⊥
 
 -- the network is that of a nest with the capacities that its schedule under a policy needs
 abbrev pub IsPlanned : Nest → Network → Type 0

@@ -98,8 +98,8 @@ module _ (n : Net) (wired : IsWired n) (capacities : ℕ → ℕ) where
 
     can_alone : (c : ℕ) → capacities c ≤ put_count n c → can_end (with_capacity full c (capacities c)) ≡ true
     can_alone c few =
-        can_end_roomier (with_room n limited) (replaced (put_count n) c (capacities c)) (wired_at n limited wired)
-        (λ d. elim (cases_eq d c) [
+        can_end_roomier (with_room n limited) (wired_at n limited wired) (replaced (put_count n) c (capacities c))
+        (λ d lt. elim (cases_eq d c) [
           | inl same ↦
               let here : capacities d ≡ capacities c = ap capacities same in
               omega (arith, here, replaced_same (put_count n) c (capacities c) d same)
@@ -130,9 +130,9 @@ some_needed n c wired put =
           least_is_own full c
           (λ b lt. false_from_ne_true (can_end (with_capacity full c b))
           (λ on. both_ways (can_end full) off
-          (can_end_roomier (with_capacity full c b) full.capacity
-          (wired_at full (replaced full.capacity c b) full_wired)
-          (λ d. elim (cases_eq d c) [
+          (can_end_roomier (with_capacity full c b) (wired_at full (replaced full.capacity c b) full_wired)
+          full.capacity
+          (λ d inside. elim (cases_eq d c) [
             | inl same ↦
                 omega (arith, lt, replaced_same full.capacity c b d same, ap full.capacity same)
             | inr other ↦ omega (arith, replaced_other full.capacity c b d other)

@@ -24,7 +24,7 @@ use Rattle.cap_trim.specs.Capacities.{with_room}
 use Rattle.clock_sim.specs.Clocks.{ClockedRunEnds, after_clocks, clocked_run, clocks}
 use Rattle.clock_sim.proofs.ClockRuns.{none_from_stuck}
 use Rattle.network_laws.specs.Stalls.{run_with_stalls, steps_of_clock}
-use Rattle.network_laws.proofs.ChannelCapacities.{cuts_with_more, enabled_with_more, ends_with_more}
+use Rattle.cap_trim.proofs.MoreRoom.{enabled_roomier, ends_roomier, run_roomier}
 use Rattle.network_laws.proofs.RunsWithStalls.{always, clocked_is_stalled, enabled_there, place, place_few, place_moved}
 use Rattle.network_laws.proofs.RunsWithStalls.{reached_at, reached_enabled, reached_run, stalled_cuts}
 
@@ -133,14 +133,14 @@ module _ {T : Type 0} (n : Net) (rule : Rule T) (capacities : ℕ → ℕ) (wire
   as_before k p = enabled n (after_clocks n rule k) p
 
   cuts_there : (k : ℕ) → IsCutRun greater opening (clocked_run n rule k)
-  cuts_there k = cuts_with_more n wired capacities more (clocked_run n rule k) opening (clocked_cuts n rule wired k)
+  cuts_there k = run_roomier n wired capacities more (clocked_run n rule k) opening (clocked_cuts n rule wired k)
 
   enabled_there_too : (k p : ℕ) → as_before k p ≡ true
       → enabled greater (reached greater rule (clocked_run n rule k)) p ≡ true
   enabled_there_too k p on =
       let run = clocked_run n rule k in
       reached_enabled greater rule greater_wired run (cuts_there k) p
-      ∙ enabled_with_more n wired capacities more (cut_after opening run) p
+      ∙ enabled_roomier n wired capacities more (cut_after opening run) p
       (sym (reached_enabled n rule wired run (clocked_cuts n rule wired k) p) ∙ on)
 
   pub same_run : (k : ℕ) → run_with_stalls greater rule as_before k ≡ clocked_run n rule k
@@ -173,7 +173,7 @@ module _ {T : Type 0} (n : Net) (rule : Rule T) (capacities : ℕ → ℕ) (wire
       )
 
   pub all_ends : ClockedRunEnds n rule → EndsAll greater rule (clocked_run n rule (clocks n))
-  all_ends ends = ends_with_more n wired capacities more rule (clocked_run n rule (clocks n)) ends.ends
+  all_ends ends = ends_roomier n wired capacities more rule (clocked_run n rule (clocks n)) ends.ends
 
   pub never_slower : ClockedRunEnds n rule → ClockedRunEnds greater rule → clocks greater ≤ clocks n
   never_slower ends more_ends =

@@ -1,7 +1,6 @@
 pub mod OneClock
 pub mod RunsWithStalls
 pub mod FairRuns
-pub mod ChannelCapacities
 pub mod FasterRuns
 pub mod LeastForClocks
 pub mod EnoughCapacity

@@ -13,9 +13,8 @@ use Rattle.net_core.proofs.EventCounts.{replaced_other, replaced_same}
 use Rattle.witness_plan.proofs.OtherCapacities.{wired_at}
 use Rattle.cap_trim.specs.Capacities.{least_capacity, trimmed_network, trimmed_network_below, with_capacity, with_room}
 use Rattle.cap_trim.specs.Rests.{can_end}
-use Rattle.cap_trim.proofs.AtRest.{can_end_since}
+use Rattle.cap_trim.proofs.AtRest.{can_end_roomier, can_end_since}
 use Rattle.cap_trim.proofs.LeastCapacities.{before_is, falls, keeps, less_sticks, turn_here}
-use Rattle.network_laws.proofs.ChannelCapacities.{can_end_with_more}
 
 module _ (n : Net) (wired : IsWired n) (capacities : ℕ → ℕ) (c : ℕ) (there : c < n.channels) where
   abbrev least : ℕ → ℕ
@@ -58,6 +57,6 @@ module _ (n : Net) (wired : IsWired n) (capacities : ℕ → ℕ) (c : ℕ) (the
       let small = wired_at n capacities wired in
       let can = can_end_since (with_room n capacities) small rule run whole in
       let more : can_end (with_room n lower) ≡ true =
-      can_end_with_more (with_room n capacities) small lower (above within below) can in
+      can_end_roomier (with_room n capacities) small lower (above within below) can in
       both_ways (can_end (with_capacity turn c (least c - 1)))
       (less_sticks turn c (least c - 1) (omega (arith, given, below))) (ap can_end (sym same_net) ∙ more)

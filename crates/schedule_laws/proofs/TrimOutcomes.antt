@@ -96,10 +96,8 @@ least_of nest sound minimal network planned =
       each = count;
       sound = sound network capacities planned refl;
       none_below = λ lesser c run there within below whole.
-          let here : c < length network.channels = omega (arith, there, count) in
-          minimal network lesser c run planned here
-          (λ d lt. omega (arith, within d (omega (arith, lt, count)), at d lt))
-          (omega (arith, below, at c here)) whole;
+          minimal network lesser c run planned there (λ d lt. omega (arith, within d lt, at d lt))
+          (omega (arith, below, at c there)) whole;
       sticks =
           places_stick nest network capacities planned (planned_wired nest network planned) refl
           (lowered_rests (trimmed_network (net_of network))) refl;

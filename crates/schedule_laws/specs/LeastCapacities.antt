@@ -1,6 +1,6 @@
 -- What `trim` comes to where it is done, and which capacities are least.
-use Rattle.std.specs.Prelude.{◌≡◌, ◌<◌, ◌≤◌, ℕ, List, Some, length, slice_index}
-use Rattle.cap_trim.specs.Capacities.{SticksBelow, with_room}
+use Rattle.std.specs.Prelude.{◌≡◌, ℕ, List, Some, length, slice_index}
+use Rattle.cap_trim.specs.Capacities.{NoneEndsBelow, SticksBelow}
 use Rattle.command_answers.specs.declared.status.Status.TheVariants.{Done}
 use Rattle.command_line.specs.declared.words.Command.TheVariants.{Trim}
 use Rattle.command_line.specs.declared.words.Order.{Order}
@@ -8,8 +8,6 @@ use Rattle.call_endings.specs.Outcomes.{Outcome}
 use Rattle.compaan_top.specs.Outcome.{IsOutcome}
 use Rattle.net_core.specs.declared.network.Network.{Network}
 use Rattle.net_core.specs.Machine.{net_of}
-use Rattle.net_core.specs.Orders.{EndsAll}
-use Rattle.net_core.specs.Rules.{tags}
 use Rattle.net_core.specs.Sound.{IsSound}
 use Rattle.sanlp.specs.declared.nest.Nest.{Nest}
 use Rattle.witness_plan.specs.Sequential.{with_capacities}
@@ -20,17 +18,10 @@ pub record WritesCapacities (order : Order) (bundle : List ℕ) (written : Outco
   pub outcome : IsOutcome (Some order) bundle written
   pub done : written.status ≡ Done
 
--- no capacities that are in no channel above these, and below them in some channel, let any run end all
-abbrev pub NoneEndsBelow : Network → List ℕ → Type 0
-NoneEndsBelow network capacities =
-    (lesser : ℕ → ℕ) (c : ℕ) (run : List ℕ) → c < length capacities
-    → ((d : ℕ) → d < length capacities → lesser d ≤ slice_index capacities d)
-    → lesser c < slice_index capacities c → EndsAll (with_room (net_of network) lesser) tags run → ⊥
-
 -- With these capacities, one for each channel, the network is sound for the nest, and with none below them does any run end
 -- all. With one place less in a single channel the network sticks at that channel's list of positions.
 pub record AreLeast (nest : Nest) (network : Network) (capacities : List ℕ) (rests : List (List ℕ)) : Type 0 where
   pub each : length capacities ≡ length network.channels
   pub sound : IsSound nest (with_capacities network capacities)
-  pub none_below : NoneEndsBelow network capacities
+  pub none_below : NoneEndsBelow (net_of network) (slice_index capacities)
   pub sticks : SticksBelow (net_of (with_capacities network capacities)) rests

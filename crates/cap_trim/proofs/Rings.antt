@@ -7,6 +7,7 @@
 -- stand round the ring. That one place more is enough isn't said.
 use Rattle.std.proofs.Common.{◌≡◌, ℕ, zero, suc, ◌+◌, ◌<◌, ◌≤◌, true, false, Option, Some, None, List, [], ◌∷◌, length}
 use Rattle.std.proofs.Common.{slice_get, refl, sym, ap, ◌∙◌, subst, inl, inr, arith, ltb-false, eqb-true, add-one}
+use Rattle.std.specs.Fn.{iterate}
 use Rattle.std.proofs.lemmas.Bool.{both_ways, cases_eq, cases_lt, false≢true, le-ltb}
 use Rattle.std.proofs.lemmas.Option.{slice_get_past}
 use Rattle.net_core.specs.declared.network.Event.{Event}
@@ -19,15 +20,19 @@ use Rattle.net_core.proofs.EventCounts.{replaced_same}
 use Rattle.witness_plan.proofs.OtherCapacities.{wired_at}
 use Rattle.cap_trim.specs.Capacities.{trimmed_network, trimmed_network_below, with_room}
 use Rattle.cap_trim.specs.Rests.{can_end, least_run}
-use Rattle.cap_trim.specs.Rings.{IsRing, further, other_end, waits_at, waits_for}
+use Rattle.cap_trim.specs.Rings.{IsRing, other_end, waits_at, waits_for}
 use Rattle.cap_trim.proofs.AtRest.{ends_at_rest, least_cuts}
 use Rattle.cap_trim.proofs.LeastCapacities.{before_ends, before_is}
 
+iterate-suc : (f : ℕ → ℕ) (i p : ℕ) → iterate f (suc i) p ≡ f (iterate f i p)
+iterate-suc f zero p = refl
+iterate-suc f (suc i) p = iterate-suc f i (f p)
+
 -- So many processes on from the first one stands this, and each before it waits for the next.
 pub record IsPath (n : Net) (k : Cut) (c first i process : ℕ) : Type 0 where
-  pub at : further (waits_for n k) first i ≡ process
+  pub at : iterate (waits_for n k) i first ≡ process
   pub waits : (j : ℕ) → j < i
-      → waits_at c (slice_get (n.script (further (waits_for n k) first j)) (k (further (waits_for n k) first j))) ≡ true
+      → waits_at c (slice_get (n.script (iterate (waits_for n k) j first)) (k (iterate (waits_for n k) j first))) ≡ true
 
 pub path_none : (n : Net) (k : Cut) (c first : ℕ) → IsPath n k c first 0 first
 path_none n k c first = record { at = refl; waits = λ j lt. absurd (omega arith) }
@@ -37,12 +42,13 @@ pub path_more : (n : Net) (k : Cut) (c first i process next : ℕ) → IsPath n 
     → waits_at c (slice_get (n.script process) (k process)) ≡ true → next ≡ waits_for n k process
     → IsPath n k c first (i + 1) next
 path_more n k c first i process next path waiting is = record {
-  at = ap (further (waits_for n k) first) (add-one i) ∙ ap (waits_for n k) path.at ∙ sym is;
+  at = ap (λ j. iterate (waits_for n k) j first) (add-one i) ∙ iterate-suc (waits_for n k) i first
+      ∙ ap (waits_for n k) path.at ∙ sym is;
   waits = λ j lt. elim (cases_lt j i) [
     | inl before ↦ path.waits j before
     | inr ge ↦
-        let here : further (waits_for n k) first j ≡ process =
-        ap (further (waits_for n k) first) (let same : j ≡ i = omega arith in same) ∙ path.at in
+        let here : iterate (waits_for n k) j first ≡ process =
+        ap (λ l. iterate (waits_for n k) l first) (let same : j ≡ i = omega arith in same) ∙ path.at in
         ap (λ q. waits_at c (slice_get (n.script q) (k q))) here ∙ waiting
   ];
 }
@@ -60,7 +66,13 @@ path_ring n k c first i process path same = record {
 module _ (n : Net) (wired : IsWired n) (m : Cut) (c p : ℕ) (ring : IsRing n m c p) where
   -- the processes of the ring, from p on, and round and round
   abbrev member : ℕ → ℕ
-  member i = further (waits_for n m) p i
+  member i = iterate (waits_for n m) i p
+
+  member_next : (i : ℕ) → member (suc i) ≡ waits_for n m (member i)
+  member_next i = iterate-suc (waits_for n m) i p
+
+  member_same : (i j : ℕ) → member i ≡ member j → member (suc i) ≡ member (suc j)
+  member_same i j same = member_next i ∙ ap (waits_for n m) same ∙ sym (member_next j)
 
   -- each is one of the first round
   in_round : (i : ℕ) → (j : ℕ) × (j < ring.size) × (member i ≡ member j)
@@ -68,10 +80,10 @@ module _ (n : Net) (wired : IsWired n) (m : Cut) (c p : ℕ) (ring : IsRing n m 
   in_round (suc i) =
       let before = in_round i in
       elim (cases_lt (suc before.0) ring.size) [
-        | inl lt ↦ (suc before.0, lt, ap (waits_for n m) before.2)
+        | inl lt ↦ (suc before.0, lt, member_same i before.0 before.2)
         | inr ge ↦
             let last : suc before.0 ≡ ring.size = omega (arith, before.1) in
-            (0, ring.some, ap (waits_for n m) before.2 ∙ ap member last ∙ ring.back)
+            (0, ring.some, member_same i before.0 before.2 ∙ ap member last ∙ ring.back)
       ]
 
   waits : (i : ℕ) → waits_at c (slice_get (n.script (member i)) (m (member i))) ≡ true
@@ -92,7 +104,7 @@ module _ (n : Net) (wired : IsWired n) (m : Cut) (c p : ℕ) (ring : IsRing n m 
     still k holds i here (Some (Get d slot)) is =
         let q : ℕ = member i in
         let reader : n.reader d ≡ q = wired.get_reader q (m q) d slot is in
-        let next : member (suc i) ≡ n.writer d = ap (other_end n q) is in
+        let next : member (suc i) ≡ n.writer d = member_next i ∙ ap (other_end n q) is in
         let puts = puts_mono n k m d (subst (λ w. k w ≤ m w) next (holds (suc i))) in
         let gets = gets_mono n m k d (omega (arith, here, ap m reader, ap k reader)) in
         let shut : can_come_at (with_room n some) m (Some (Get d slot)) ≡ false =
@@ -105,7 +117,7 @@ module _ (n : Net) (wired : IsWired n) (m : Cut) (c p : ℕ) (ring : IsRing n m 
         let q : ℕ = member i in
         let this : c ≡ d = eqb-true c d (ap (waits_at c) (sym is) ∙ waits i) in
         let writer : n.writer d ≡ q = wired.put_writer q (m q) d is in
-        let next : member (suc i) ≡ n.reader d = ap (other_end n q) is in
+        let next : member (suc i) ≡ n.reader d = member_next i ∙ ap (other_end n q) is in
         let gets = gets_mono n k m d (subst (λ w. k w ≤ m w) next (holds (suc i))) in
         let puts = puts_mono n m k d (omega (arith, here, ap m writer, ap k writer)) in
         let shut : can_come_at (with_room n some) m (Some (Put d)) ≡ false =

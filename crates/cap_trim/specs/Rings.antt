@@ -1,5 +1,6 @@
 -- Processes that wait for one another in a ring.
-use Rattle.std.specs.Prelude.{◌≡◌, ◌<◌, ℕ, zero, suc, Bool, true, false, ◌==◌, Option, Some, None, slice_get}
+use Rattle.std.specs.Prelude.{◌≡◌, ◌<◌, ℕ, Bool, true, false, ◌==◌, Option, Some, None, slice_get}
+use Rattle.std.specs.Fn.{iterate}
 use Rattle.net_core.specs.declared.network.Event.{Event}
 use Rattle.net_core.specs.declared.network.Event.TheVariants.{Get, Fire, Put}
 use Rattle.net_core.specs.Cuts.{Cut}
@@ -23,17 +24,12 @@ waits_at c (Some (Get d slot)) = true
 waits_at c (Some (Fire refs)) = false
 waits_at c (Some (Put d)) = c == d
 
--- the process that is reached from p by so many steps of f
-abbrev pub further : (ℕ → ℕ) → ℕ → ℕ → ℕ
-further f p zero = p
-further f p (suc i) = f (further f p i)
-
 -- Each process from p on waits for the next one, the last of them for p; and each makes a Get next, or a Put to channel c.
 pub record IsRing (n : Net) (k : Cut) (c p : ℕ) : Type 0 where
   pub size : ℕ
   pub some : 0 < size
-  pub back : further (waits_for n k) p size ≡ p
+  pub back : iterate (waits_for n k) size p ≡ p
   pub waits : (i : ℕ) → i < size
       → waits_at c
-      (slice_get (n.script (further (waits_for n k) p i)) (k (further (waits_for n k) p i)))
+      (slice_get (n.script (iterate (waits_for n k) i p)) (k (iterate (waits_for n k) i p)))
       ≡ true

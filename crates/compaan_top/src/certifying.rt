@@ -6,7 +6,6 @@ ghost use Rattle.compaan_top.specs.Certifying.{PrintsCertificate};
 use bundle::parts_of;
 use command_answers::{CertificateAnswer, Stop, sized_nest};
 use loop_class::Params;
-use loop_walk::points;
 use net_maker::compile;
 use std::alloc::Global;
 use witness_plan::Policy;
@@ -23,7 +22,6 @@ pub fn print_certificate(
 {
     let parts = parts_of(bundle);
     let nest = sized_nest(alloc, parts.source, params)?;
-    let points = points(alloc, &nest)?;
-    let (network, cert) = compile(alloc, &nest, &points, policy)?;
+    let (network, cert) = compile(alloc, &nest, policy)?;
     Ok(CertificateAnswer { network, cert })
 }

@@ -88,7 +88,7 @@ fn with_network(alloc: Global, nest: Nest, points: Points, policy: Policy) -> Re
     ensures ends { IfOk result
         (λ made. EndsAll (net_of made.network) tags made.cert.schedule) }
 {
-    match compile(alloc, &nest, &points, policy) {
+    match compile(alloc, &nest, policy) {
         Ok((network, cert)) => {
             fitting_is_sound(&nest, &network, &cert);
             Ok(Made {

@@ -1,1 +1,2 @@
+pub mod MadePoints
 pub mod Origins

@@ -1,9 +1,10 @@
-ghost use Rattle.std.specs.Prelude.{◌≡◌, ◌<◌, ◌+◌, ◌↔◌, ℕ, ℤ, List, [], None, Some, length, slice_get, slice_index_or, IfOk, IsTrue, OnOk};
+ghost use Rattle.std.specs.Prelude.{◌≡◌, ◌<◌, ◌+◌, ◌↔◌, ℕ, ℤ, List, [], None, Some, length, slice_get, slice_index_or, IfOk, IfSome, IsTrue, OnOk};
 ghost use Rattle.net_checker.specs.Shapes.{read_total};
-ghost use Rattle.net_checker.specs.Sources.{IsUsable};
 ghost use Rattle.net_maker.specs.Origins.{HasOrigins, IsUsableOrigin};
+ghost use Rattle.net_maker.specs.MadePoints.{ArePoints, IsMade, NeverOverflowsAt};
 ghost use Rattle.sanlp.specs.Access.{read_count};
 ghost use Rattle.sanlp.specs.Points.{points_of};
+ghost use Rattle.sanlp.specs.Size.{SizeIsOk};
 ghost use Rattle.source_tree.specs.Checked.{IsChecked};
 ghost use Rattle.source_tree.specs.Sources.{read_number};
 ghost use Rattle.source_tree.specs.Walk.{is_ready, outcome_of};
@@ -17,7 +18,11 @@ use sanlp::{Nest, Points};
 use source_tree::{Origin, Tree};
 use std::alloc::{AllocError, Global};
 use stride_rows::differences_are_strides;
+use tree_bounds::stays_within;
 use tree_eval::Follower;
+
+/// The greatest absolute value of a loop's variable.
+const LOOP_VALUE_LIMIT: u128 = 4_611_686_018_427_387_904;
 
 // Whether the tree overflows at none of these points.
 fn overflows_nowhere(tree: &Tree, vectors: &[Vector]) -> bool
@@ -35,19 +40,80 @@ fn overflows_nowhere(tree: &Tree, vectors: &[Vector]) -> bool
     true
 }
 
-// Whether a checked tree of a read of the statement may stand in a certificate: it overflows at no point of the statement and
-// has a text that can be read.
-fn may_stand(points: &Points, statement: u32, tree: &Tree) -> bool
+// The same of the points of a statement.
+fn overflows_nowhere_of(points: &Points, statement: u32, tree: &Tree) -> bool
     requires statement { statement < length points.now.of }
     requires ready { (f : ℕ) (at : List ℤ)
         → slice_get (slice_index_or points.now.of statement []) f ≡ Some at
         → IsTrue (is_ready (length at) tree.now (length at)) }
-    ensures fits { IsTrue result → (f : ℕ) (at : List ℤ)
+    ensures { IsTrue result → (f : ℕ) (at : List ℤ)
         → slice_get (slice_index_or points.now.of statement []) f ≡ Some at
         → outcome_of tree.now at ≡ None → ⊥ }
-    ensures text { IsTrue result → TreeIsInRange tree.now }
 {
-    has_text(tree) && overflows_nowhere(tree, points.of.as_slice()[statement as usize].as_slice())
+    overflows_nowhere(tree, points.of.as_slice()[statement as usize].as_slice())
+}
+
+// Makes the points of a nest, unless they were made before.
+fn make_points(alloc: Global, nest: &Nest, points: &mut Option<Points>) -> Result<(), AllocError>
+    requires size { SizeIsOk nest.now }
+    requires points { IfSome points.old (ArePoints nest.now) }
+    ensures { OnOk result (IsMade (ArePoints nest.now) points.new) }
+{
+    if points.is_none() {
+        *points = Some(loop_walk::points(alloc, nest)?);
+    }
+    Ok(())
+}
+
+// Whether the tree overflows at none of a statement's points, by a look at each of them.
+fn overflows_at_no_point(
+    alloc: Global,
+    nest: &Nest,
+    points: &mut Option<Points>,
+    statement: u32,
+    tree: &Tree,
+) -> Result<bool, AllocError>
+    requires size { SizeIsOk nest.now }
+    requires points { IfSome points.old (ArePoints nest.now) }
+    requires statement { statement < length nest.now.statements }
+    requires ready { (f : ℕ) (at : List ℤ)
+        → slice_get (slice_index_or (points_of nest.now) statement []) f ≡ Some at
+        → IsTrue (is_ready (length at) tree.now (length at)) }
+    ensures points { OnOk result (IfSome points.new (ArePoints nest.now)) }
+    ensures fits { IfOk result
+        (λ fits. IsTrue fits → NeverOverflowsAt nest.now statement tree.now) }
+{
+    make_points(alloc, nest, points)?;
+    let Some(made) = points else { unreachable!() };
+    Ok(overflows_nowhere_of(made, statement, tree))
+}
+
+// Whether a checked tree of a read of the statement may stand in a certificate: it overflows at no point of the statement and
+// has a text that can be read. Mostly the sizes of its numbers tell the first, and the points are made only where they don't.
+fn may_stand(
+    alloc: Global,
+    nest: &Nest,
+    points: &mut Option<Points>,
+    statement: u32,
+    read: u32,
+    tree: &Tree,
+) -> Result<bool, AllocError>
+    requires size { SizeIsOk nest.now }
+    requires points { IfSome points.old (ArePoints nest.now) }
+    requires statement { statement < length nest.now.statements }
+    requires checked { IsChecked nest.now statement read tree.now }
+    ensures points { OnOk result (IfSome points.new (ArePoints nest.now)) }
+    ensures fits { IfOk result
+        (λ stands. IsTrue stands → NeverOverflowsAt nest.now statement tree.now) }
+    ensures text { IfOk result (λ stands. IsTrue stands → TreeIsInRange tree.now) }
+{
+    if !has_text(tree) {
+        return Ok(false);
+    }
+    if stays_within(tree, LOOP_VALUE_LIMIT) {
+        return Ok(true);
+    }
+    overflows_at_no_point(alloc, nest, points, statement, tree)
 }
 
 // Where a read has its values from: from the points that its tree gives, where that may stand in a certificate, and else
@@ -55,21 +121,24 @@ fn may_stand(points: &Points, statement: u32, tree: &Tree) -> bool
 fn origin(
     alloc: Global,
     nest: &Nest,
-    points: &Points,
+    points: &mut Option<Points>,
     statement: u32,
     read: u32,
 ) -> Result<Origin, AllocError>
-    requires points { points.now.of ≡ points_of nest.now }
+    requires size { SizeIsOk nest.now }
+    requires points { IfSome points.old (ArePoints nest.now) }
     requires statement { statement < length nest.now.statements }
     requires read { read < read_count nest.now statement }
-    ensures { IfOk result (IsUsableOrigin nest.now statement read) }
+    ensures points { OnOk result (IfSome points.new (ArePoints nest.now)) }
+    ensures origin { IfOk result (IsUsableOrigin nest.now statement read) }
 {
     if !in_difference_class(nest, statement, read) {
         return Ok(Origin::Sweep);
     }
     differences_are_strides();
     let tree = source_of(alloc, nest, statement, read)?;
-    if may_stand(points, statement, &tree) {
+    let stands = may_stand(alloc, nest, points, statement, read, &tree)?;
+    if stands {
         Ok(Origin::Tree(Boxed::new(alloc, tree)?))
     } else {
         Ok(Origin::Sweep)
@@ -80,14 +149,16 @@ fn origin(
 fn add_origins(
     alloc: Global,
     nest: &Nest,
-    points: &Points,
+    points: &mut Option<Points>,
     statement: u32,
     sources: &mut Items<Origin>,
 ) -> Result<(), AllocError>
-    requires points { points.now.of ≡ points_of nest.now }
+    requires size { SizeIsOk nest.now }
+    requires points { IfSome points.old (ArePoints nest.now) }
     requires statement { statement < length nest.now.statements }
     requires before { HasOrigins nest.now (read_number nest.now statement 0) sources.old }
-    ensures { OnOk result
+    ensures points { OnOk result (IfSome points.new (ArePoints nest.now)) }
+    ensures origins { OnOk result
         (HasOrigins nest.now (read_number nest.now (statement + 1) 0) sources.new) }
 {
     for read in 0..nest.statement(statement).reads.len() {
@@ -98,17 +169,14 @@ fn add_origins(
 
 /// Where each read has its values from: reads of the difference class from the points that their trees give, where these fit
 /// in a certificate, and others from the last writers.
-pub(crate) fn origins(
-    alloc: Global,
-    nest: &Nest,
-    points: &Points,
-) -> Result<Items<Origin>, AllocError>
-    requires { points.now.of ≡ points_of nest.now }
+pub(crate) fn origins(alloc: Global, nest: &Nest) -> Result<Items<Origin>, AllocError>
+    requires { SizeIsOk nest.now }
     ensures { IfOk result (HasOrigins nest.now (read_total nest.now)) }
 {
+    let mut points = None;
     let mut sources = Items::new(alloc);
     for statement in 0..nest.statements.len() {
-        add_origins(alloc, nest, points, statement as u32, &mut sources)?;
+        add_origins(alloc, nest, &mut points, statement as u32, &mut sources)?;
     }
     Ok(sources)
 }

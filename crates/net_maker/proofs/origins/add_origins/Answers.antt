@@ -12,11 +12,14 @@ loop-read-preserved c =
     let s = c.args.statement in
     let few : c.loop-read.read < read_count n s =
     omega (arith, read_count-some n s c.statement.result.now c.statement.ensures.value, c.len-read-end.ensures) in
-    origins_more n s c.loop-read.read c.loop-read.sources c.push.new.self c.in_ok-origin.field-0 few
-    c.loop-read.invariant c.in_ok-push.ensures.ok c.in_ok-origin.ensures
+    record {
+      points = c.in_ok-origin.ensures.points;
+      origins = origins_more n s c.loop-read.read c.loop-read.sources c.push.new.self c.in_ok-origin.field-0 few
+          c.loop-read.invariant.origins c.in_ok-push.ensures.ok c.in_ok-origin.ensures.origin;
+    }
 
-pub returns : goal.returns
-returns c =
+pub returns-clause-origins : goal.returns-clause-origins
+returns-clause-origins c =
     let n = c.args.nest.now in
     let s = c.args.statement in
     let all : read_number n s c.loop-read.read ≡ read_number n (s + 1) 0 =
@@ -26,4 +29,4 @@ returns c =
       read_count-some n s c.statement.result.now c.statement.ensures.value,
       c.len-read-end.ensures,
     ) in
-    subst (λ (count : ℕ). HasOrigins n count c.loop-read.sources) all c.loop-read.invariant
+    subst (λ (count : ℕ). HasOrigins n count c.loop-read.sources) all c.loop-read.invariant.origins

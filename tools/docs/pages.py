@@ -5,9 +5,9 @@ usage: tools/docs/pages.py [--program]             compares each part with its p
                                                    there is one. With --program also what the built program prints
        tools/docs/pages.py [--program] --write     puts them into their pages
        tools/docs/pages.py --printed NAME FILE     puts what a script of measures printed into its page: measures of tools/bench/all.py,
-                                                   flow of tools/bench/flow.py, limits of sections of tools/hostile/limits.py, designs,
-                                                   synthesis, large and folds of the scripts that bear these names in tools/hardware,
-                                                   parts of hardware/synthesize
+                                                   counts and flow of the scripts of tools/bench that bear these names, limits of
+                                                   sections of tools/hostile/limits.py, designs, synthesis, large and folds of the
+                                                   scripts that bear these names in tools/hardware, parts of hardware/synthesize
        tools/docs/pages.py --sentences             lists the definitions whose comment lacks, or tells nothing by itself
 
 A part stands between a line `<!-- tools/docs/pages.py: NAME -->` and a line `<!-- end -->`:
@@ -20,9 +20,9 @@ claims       how many lines the definitions have that a claim rests on
 meaning, soundness   files of definitions: which those are that a claim rests on, and how many lines of them; what a row says of them
              stays as it is
 clocks       the clocks of each example, as they stand beside its answer
-aims         what the table of measures says beside the aims
+aims         what the tables of measures say beside the aims
 capacities   of each example the sum of the capacities and the greatest one, by each policy and by trim: by the program
-measures, flow, limits     tables of time and memory, which nothing compares
+measures, counts, flow, limits     tables of time, instructions and memory, which nothing compares
 designs             of each example the sizes of its design and the clocks, which are compared with those beside its answer
 synthesis, parts, large, folds     tables of what is made of designs, which nothing compares
 
@@ -83,14 +83,19 @@ CLAIMS = [
     ("all that a call promises: `IsCallOf`", "these, and what follows of `Ends`", "compaan_top.Calls.IsCallOf"),
 ]
 MEANING, SOUNDNESS = "sanlp.Meaning.arrays", "net_core.Sound.IsSound"
-# A row of the table of measures, the aim, and what of the row is to be within it.
+# What is aimed at: a row of a table of measures, what of the row is to be within the aim, and that.
 AIMS = [
-    ("`seq` of the matrix product, an executed assignment", "matrix product N=100 | seq", "ns a point", 100, "ns"),
-    ("`net` of the matrix product, a point", "matrix product N=100 | net", "ns a point", 350, "ns"),
-    ("`net` of the matrix product, a point", "matrix product N=100 | net", "Bytes a point", 120, "bytes"),
-    ("`check` of the matrix product beside `net`", "matrix product N=100 | check", "Times the peer", 1, "times"),
-    ("`load 100` beside the pipeline", "load 100 | load", "Times the peer", 3, "times"),
-    ("`load 100`", "load 100 | load", "MB", 150, "MB"),
+    ("`seq` of the matrix product, an executed assignment", "measures", "matrix product N=100 | seq", "ns a point", 100, "ns"),
+    ("`net` of the matrix product, a point", "measures", "matrix product N=100 | net", "ns a point", 350, "ns"),
+    ("`net` of the matrix product, a point", "measures", "matrix product N=100 | net", "Bytes a point", 120, "bytes"),
+    ("`check` of the matrix product beside `net`", "measures", "matrix product N=100 | check", "Times the peer", 1, "times"),
+    ("`load 100` beside the pipeline", "measures", "load 100 | load", "Times the peer", 3, "times"),
+    ("`load 100`", "measures", "load 100 | load", "MB", 150, "MB"),
+    ("`net` of the matrix product N=40", "counts", "matrix product N=40 | net", "Millions", 60, "million instructions"),
+    ("`cert` of the matrix product N=40", "counts", "matrix product N=40 | cert", "Millions", 150, "million instructions"),
+    ("`check` of the matrix product N=40", "counts", "matrix product N=40 | check", "Millions", 100, "million instructions"),
+    ("`trim` of the pipeline beside `net`, instructions", "counts", "pipeline of 60 stages N=300 | trim", "Times the peer", 10, "times"),
+    ("`load 100` beside the pipeline, instructions", "counts", "load 100 | load", "Times the peer", 3, "times"),
 ]
 
 
@@ -240,17 +245,18 @@ def files_of_claim(name: str, without: str | None) -> Callable[[str], str]:
     return rows
 
 
-def measured() -> dict[str, dict[str, str]]:
-    """The rows of the table of measures, by kernel and command."""
-    lines = [it for it in part_of(read(TOP / "docs" / "MEASURES.md"), "measures").splitlines() if it.startswith("|")]
+def measured(name: str) -> dict[str, dict[str, str]]:
+    """The rows of a table of measures, by kernel and command."""
+    lines = [it for it in part_of(read(TOP / "docs" / "MEASURES.md"), name).splitlines() if it.startswith("|")]
     rows = [[it.strip() for it in line.strip("| ").split(" | ")] for line in lines]
     return {f"{it[0]} | {it[1]}": dict(zip(rows[0], it)) for it in rows[2:]}
 
 
 def aims(_: str) -> str:
-    rows, found = [], measured()
-    for said, measure, column, most, unit in AIMS:
-        value = found.get(measure, {}).get(column)
+    tables = {name: measured(name) for name in ("measures", "counts")}
+    rows = []
+    for said, table, measure, column, most, unit in AIMS:
+        value = tables[table].get(measure, {}).get(column)
         rows.append((said, f"{most} {unit}", f"{value} {unit}" if value else "", "yes" if value and float(value) <= most else "no"))
     return table_lines(("What", "Aim: at most", "Measured", "Within"), rows)
 
@@ -291,7 +297,7 @@ PARTS: dict[str, tuple[str, Callable[[str], str]]] = {
 }
 # The tables of measures, each with its page.
 TABLES = {
-    **dict.fromkeys(("measures", "flow"), "docs/MEASURES.md"),
+    **dict.fromkeys(("measures", "counts", "flow"), "docs/MEASURES.md"),
     **dict.fromkeys(("designs", "synthesis", "parts", "large", "folds"), "docs/RTL.md"),
 }
 # What the program prints into a page.

@@ -140,18 +140,17 @@ def ask(
 
 class Server:
     """A small process that starts programs one after the other, which costs less than `ask` does. Their streams are files in memory that
-    serve them all."""
+    serve them all. Several runs on one bundle may be asked for before the first has ended."""
 
     def __init__(self) -> None:
-        mine, its = socket.socketpair()
-        self.socket = mine
-        self.bundle, self.output, self.complaint = (in_memory() for _ in range(3))
-        streams = enumerate((its.fileno(), self.bundle, self.output, self.complaint), 3)
+        self.socket, its = socket.socketpair()
+        self.bundle, self.waiting = b"", 0
+        self.file, *outputs = (in_memory() for _ in range(3))
         # Each stands above the numbers that it is to have there.
-        above = [(fcntl.fcntl(it, fcntl.F_DUPFD_CLOEXEC, 16), number) for number, it in streams]
-        actions = [(os.POSIX_SPAWN_DUP2, it, number) for it, number in above]
+        above = [fcntl.fcntl(it, fcntl.F_DUPFD_CLOEXEC, 16) for it in (its.fileno(), self.file, *outputs)]
+        actions = [(os.POSIX_SPAWN_DUP2, it, number) for number, it in enumerate(above, 3)]
         self.process = os.posix_spawn(starter("serve"), ["serve"], os.environ, file_actions=actions)
-        for it, _ in above:
+        for it in (*outputs, *above):
             os.close(it)
         its.close()
 
@@ -159,22 +158,33 @@ class Server:
         """Ends the small process."""
         self.socket.close()
         os.waitpid(self.process, 0)
-        for it in (self.bundle, self.output, self.complaint):
-            os.close(it)
+        os.close(self.file)
 
-    def ask(self, program: str, words: Sequence[str], bundle: bytes, limit: float) -> End:
-        """Runs the program once on this bundle."""
-        at = 0
-        while at < len(bundle):
-            at += os.pwrite(self.bundle, bundle[at : at + (1 << 24)], at)
-        os.ftruncate(self.bundle, len(bundle))
-        told = b"".join(os.fsencode(it) + b"\0" for it in (program, *words))
-        start = time.perf_counter()
+    def send(self, program: str, words: Sequence[str], bundle: bytes, limit: float) -> None:
+        """Asks for a run. While others are waited for it has their bundle."""
+        if bundle != self.bundle:
+            assert not self.waiting
+            at = 0
+            while at < len(bundle):
+                at += os.pwrite(self.file, bundle[at : at + (1 << 24)], at)
+            os.ftruncate(self.file, len(bundle))
+            self.bundle = bundle
+        told = b"".join([os.fsencode(it) + b"\0" for it in (program, *words)])
         self.socket.sendall(struct.pack("3q", len(told), len(words) + 1, int(limit * 1e6)) + told)
-        status, kilobytes, cpu, late = struct.unpack("4q", self.socket.recv(32, socket.MSG_WAITALL))
-        seconds = time.perf_counter() - start
-        output, complaint = all_of(self.output), all_of(self.complaint)
-        return End(os.waitstatus_to_exitcode(status), output, complaint, seconds, cpu / 1e6, kilobytes, bool(late))
+        self.waiting += 1
+
+    def receive(self) -> End:
+        """How the first of the runs that are waited for ended."""
+        status, kilobytes, passed, cpu, late, *sizes = struct.unpack("7q", self.taken(56))
+        output, complaint = map(self.taken, sizes)
+        self.waiting -= 1
+        return End(os.waitstatus_to_exitcode(status), output, complaint, passed / 1e6, cpu / 1e6, kilobytes, bool(late))
+
+    def taken(self, size: int) -> bytes:
+        found = self.socket.recv(size, socket.MSG_WAITALL) if size else b""
+        while len(found) < size and (piece := self.socket.recv(size - len(found), socket.MSG_WAITALL)):
+            found += piece
+        return found
 
 
 def keep_below(gigabytes: int) -> None:

@@ -566,6 +566,10 @@ def damaged(
 # ------------------------------------------------------------------------------------------------------------- the runs
 
 
+# The command with all words, and the bundle.
+Given = tuple[tuple[str, ...], bytes]
+
+
 class Job:
     """The inputs of some numbers, run and compared."""
 
@@ -573,8 +577,11 @@ class Job:
         self.program, self.seed, self.keep = program, seed, keep
         self.server = asking.Server()
         self.counts: Counter[str] = Counter()
-        # What `net` came to, by what it was given, for the program that is looked at.
-        self.nets: dict[tuple[tuple[str, ...], bytes], End] = {}
+        # What `net` came to, by what it was given, for the program that is looked at; the runs that were asked for ahead; and how those of
+        # them ended that weren't looked at yet.
+        self.nets: dict[Given, End] = {}
+        self.ahead: list[Given] = []
+        self.ends: dict[Given, End] = {}
         self.differences = 0
         self.kilobytes, self.seconds = 0, 0.0
 
@@ -582,13 +589,28 @@ class Job:
         """How a command ends. What `net` came to on the same words and bundle isn't asked again."""
         if command != "net":
             return self.run_once(number, command, words, bundle, policy)
-        given = (*words, *policy), bundle
+        given = (command, *words, *policy), bundle
         if given not in self.nets:
             self.nets[given] = self.run_once(number, command, words, bundle, policy)
         return self.nets[given]
 
+    def ask_ahead(self, commands: Sequence[str], words: Sequence[str], bundle: bytes, policy: Sequence[str]) -> None:
+        """Asks for runs that are looked at later, one by one. So they follow each other at once."""
+        for command in commands:
+            self.server.send(self.program, [command, *words, *policy], bundle, MOST_SECONDS)
+            self.ahead.append(((command, *words, *policy), bundle))
+
+    def end_of(self, given: Given) -> End:
+        """How a run ends, which may have been asked for ahead."""
+        while self.ahead and given not in self.ends:
+            self.ends[self.ahead.pop(0)] = self.server.receive()
+        if given in self.ends:
+            return self.ends.pop(given)
+        self.server.send(self.program, *given, MOST_SECONDS)
+        return self.server.receive()
+
     def run_once(self, number: int, command: str, words: Sequence[str], bundle: bytes, policy: Sequence[str]) -> End:
-        end = self.server.ask(self.program, [command, *words, *policy], bundle, MOST_SECONDS)
+        end = self.end_of(((command, *words, *policy), bundle))
         self.counts["runs"] += 1
         self.kilobytes, self.seconds = max(self.kilobytes, end.kilobytes), max(self.seconds, end.cpu)
         if end.hung or end.status < 0 or end.kilobytes > MOST_KILOBYTES:
@@ -639,17 +661,22 @@ class Job:
 
     def one(self, number: int) -> None:
         self.nets.clear()
+        self.ends.clear()
         pick, source, data = self.program_of(number)
         words = source.words
         policy: list[str] = pick.choice([[], ["--policy=seq"], ["--policy", "down"], ["--policy=down"]])
         bundle = bundled(source.source, data)
         answer = self.wanted(["run", *words, *policy], bundle, True)
+        # what is run below on this bundle
+        net = ["net"] if answer and answer[0] in (0, 9) else []
+        more = (["net"], [*net, "trim"], ["net", "vhdl", "sim"], net)[number % 4]
+        self.ask_ahead(["run", "seq", "cert", *more], words, bundle, policy)
         ends = {command: self.compare(number, command, words, bundle, answer, policy) for command in ("run", "seq")}
         self.counts[f"programs, status {ends['run'].status}"] += 1
         # the other commands pass over the data
         done = (0, None, b"") if answer and answer[0] in (0, 9) else answer
         cert = self.compare(number, "cert", words, bundle, done, policy)
-        net = number % 4 == 0 and self.compare(number, "net", words, bundle, done, policy)
+        told = number % 4 == 0 and self.compare(number, "net", words, bundle, done, policy)
         if number % 4 == 2:
             self.same_nodes(number, words, bundle, ends["run"], done, policy)
         trim = number % 4 == 1 and self.compare(number, "trim", words, bundle, done, policy)
@@ -664,8 +691,8 @@ class Job:
                 self.differ(number, "cert", words, checked, "a certificate that meaning.py refuses", "one that it accepts")
             for text in {cert.output, without_trees}:
                 self.compare(number, "check", words, before + text, (0, b"accepted\n", b""))
-            if net:
-                self.same_network(number, words, bundle, net.output, without_trees)
+            if told:
+                self.same_network(number, words, bundle, told.output, without_trees)
             if number % 4 == 3:
                 self.same_schedule(number, words, before, without_trees, policy)
             if trim:

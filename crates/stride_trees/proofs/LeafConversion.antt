@@ -20,10 +20,9 @@ use Rattle.difference_graphs.specs.Simple.{IsLightSum, IsSimple}
 use Rattle.difference_graphs.specs.Systems.{at_test, at_writer, at_zero, later_systems, none_systems, place_systems, IsCheckedFor}
 use Rattle.difference_graphs.proofs.Just.{later_system, none_system}
 use Rattle.difference_graphs.proofs.OrderEdges.{length_variables}
-use Rattle.difference_graphs.proofs.ZeroSystems.{level_exists, variables_taken}
 use Rattle.difference_graphs.proofs.EdgeSums.{over_append}
-use Rattle.difference_graphs.proofs.RowBounds.{are_made, forms_append, level_at, most_made, small_append, small_equal, small_less}
-use Rattle.difference_graphs.proofs.RowBounds.{AreMade, AreSmall, AreTaken, IsSmallLevel}
+use Rattle.difference_graphs.proofs.RowBounds.{forms_append, small_append, small_equal, small_less}
+use Rattle.difference_graphs.proofs.RowBounds.{AreSmall, AreTaken, IsSmallLevel}
 use Rattle.difference_graphs.proofs.Nodes.{checked_point, checked_test, checked_zero, simple_both, simple_none}
 use Rattle.difference_graphs.proofs.Nodes.{simple_point, AreBothChecked, AreBothSimple, IsCheckedPoint}
 use Rattle.plain_data.proofs.Tests.{ltb-same}
@@ -45,7 +44,7 @@ use Rattle.source_tree.proofs.Gives.{gives-Test, gives-Writer, gives-Zero}
 use Rattle.source_tree.proofs.Refutations.{AreRefuted-append, length-AreRefuted}
 use Rattle.stride_trees.specs.Candidates.{at_test as cut_test, at_writer as cut_writer, at_zero as cut_zero, order_number}
 use Rattle.stride_trees.specs.Candidates.{AreCutSums, AreNoneCutSums, AreWriterCutSums, IsCutTree}
-use Rattle.stride_trees.specs.Contexts.{outside_cell_systems, own_system, told_system, AddsConverted, AreMadeSmall}
+use Rattle.stride_trees.specs.Contexts.{outside_cell_systems, own_system, told_system, AddsConverted}
 use Rattle.stride_trees.specs.Contexts.{AreOrders, AreTestsIn, IsConvertedTree, IsPlaceIn, IsTestedContext}
 use Rattle.stride_trees.specs.Problem.{problem_write, told_read, told_write}
 use Rattle.stride_rows.specs.Sources.{divided_form, next_place, places_behind}
@@ -54,7 +53,8 @@ use Rattle.stride_trees.specs.declared.strides.Strides.{Strides}
 use Rattle.stride_trees.proofs.ProblemBounds.{are_fitting, AreFitting}
 use Rattle.stride_trees.proofs.Lists.{forms_count}
 use Rattle.stride_trees.proofs.RowReach.{below_reached, reached_farther, reached_made, taken_reached, IsMadeWithin}
-use Rattle.stride_trees.proofs.Rows.{level_count}
+use Rattle.stride_trees.proofs.LevelOrders as of_level
+use Rattle.stride_trees.proofs.LevelOrders.{made_small}
 use Rattle.stride_trees.proofs.SystemConversion.{reads_count}
 
 -- Contexts below a Test
@@ -116,16 +116,6 @@ abbrev SmallOrders : ℕ → ℕ → List RowExpr → List (List RowExpr) → Ty
 SmallOrders vars more level [] = Unit {0}
 SmallOrders vars more level (rows ∷ further) =
     (length (level ++ rows) ≡ more) × AreSmall vars (level ++ rows) × SmallOrders vars (more + 2) level further
-
-made_small : (vars : ℕ) (rows : List RowExpr) → AreSmall vars rows → AreMadeSmall vars rows
-made_small vars rows h =
-    let m : AreMade vars rows = are_made vars rows h in
-    record {
-      forms = m.forms;
-      are_made = m.are;
-      within = All-weaker (IsWithin most_made) (IsWithin (2 ^ 90)) (λ f k. IsWithin-weaker most_made (2 ^ 90) f (omega arith) k)
-          m.forms m.within;
-    }
 
 pub orders_made : (vars more : ℕ) (level : List RowExpr) (further : List (List RowExpr))
     → SmallOrders vars more level further → AreOrders vars more level further
@@ -265,22 +255,11 @@ module _ (s : Strides) (strided : IsStrided s) (places : List ℕ) (here : ℕ) 
     abbrev vars : ℕ
     vars = c.vars + loops
 
-    own_taken : AreTaken vars (writer_place c w)
-    own_taken = variables_taken vars c.vars loops (omega arith)
-
-    readers : AreTaken vars (reader_place r)
-    readers = variables_taken vars 0 (length r.statement.loops) (omega (arith, at.reader))
-
-    level : IsSmallLevel vars (order_rows (common_of w r) (nat_lt w.number r.number) (writer_place c w) (reader_place r)) p
-    level = level_at vars (common_of w r) p (nat_lt w.number r.number) (writer_place c w) (reader_place r)
-        (omega (arith, length_variables c.vars loops, fits.common_loops))
-        (omega (arith, length_variables 0 (length r.statement.loops), fits.common_vars))
-        (level_exists r w p strided.strided.level) own_taken readers
+    abbrev level : IsSmallLevel vars (order_rows (common_of w r) (nat_lt w.number r.number) (writer_place c w) (reader_place r)) p
+    level = of_level.level s strided c at.reader
 
     level_long : length level.rows ≡ 2 * s.level + cond (nat_lt s.level s.common) 1 0
-    level_long =
-        level_count (common_of w r) p (nat_lt w.number r.number) (writer_place c w) (reader_place r) level.rows level.is
-        ∙ ap (λ n. 2 * s.level + cond {A = ℕ} (nat_lt s.level n) 1 0) (sym strided.common)
+    level_long = of_level.level_long s strided c at.reader
 
     -- a Zero leaf
     module _ (more : ℕ) (told new : List Proof) (count : more ≡ 2 * s.level + cond (nat_lt s.level s.common) 1 0)
@@ -289,8 +268,7 @@ module _ (s : Strides) (strided : IsStrided s) (places : List ℕ) (here : ℕ) 
       one_order =
           let whole : length (level.rows ++ []) ≡ more =
           omega (arith, length-append level.rows [], level_long, count) in
-          orders_made vars more level.rows ([] ∷ [])
-          (whole, small_append vars level.rows [] level.small tt, tt)
+          orders_made vars more level.rows ([] ∷ []) (whole, of_level.only_small s strided c at.reader, tt)
 
       zero_added : AddsConverted (order_number r w c) (Unit {0})
           (told_system s places c (level.rows ++ []) ∷ []) (own_system s c (level.rows ++ []) ∷ []) told [] new
@@ -398,7 +376,7 @@ module _ (s : Strides) (strided : IsStrided s) (places : List ℕ) (here : ℕ) 
         orders = subst (AreOrders vars more level.rows) (sym further_is)
             (orders_made vars more level.rows (order_rows loops false place (writer_place c w))
             (orders_small vars more loops level.rows place (writer_place c w) (omega (arith, count, level_long)) level.small
-            (place_taken c vars place (omega arith) over within) own_taken))
+            (place_taken c vars place (omega arith) over within) (of_level.own_taken s strided c at.reader)))
 
         added : AddsConverted (order_number r w c) (Unit {0}) later'
             (map (λ rows. own_system s c (level.rows ++ rows)) further) last (proofs ++ middle) new

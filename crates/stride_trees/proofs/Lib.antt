@@ -1,16 +1,17 @@
-pub mod Multiples
+pub mod AnswerContexts
 pub mod Lists
 mod RowReach
 mod Rows
 pub mod ProblemBounds
 pub mod NoSystems
-pub mod Systems
+pub mod TestForms
 pub mod TestNodes
 mod MadeRows
 mod WriteSystems
 pub mod SystemConversion
 mod Subscript
 mod NoWrites
+mod LevelOrders
 mod EuclidSteps
 mod CommonDivisors
 mod RoundedRows

@@ -4,7 +4,7 @@
 -- the write's subscript say that the form is such a multiple, taken with the sign of the stride. These four are refuted
 -- together, whatever the other rows of the context, the writer and the order are.
 use Rattle.std.proofs.Common.{◌≡◌, ◌+◌, ◌*◌, ◌≤◌, ◌<◌, ℕ, ℤ, pos, negsuc, ◌+ℤ◌, ◌*ℤ◌, List}
-use Rattle.std.proofs.Common.{length, map, Bool, cond, sym, ap, ◌∙◌, subst, arith}
+use Rattle.std.proofs.Common.{◌++◌, length, map, Bool, true, false, cond, sym, ap, ◌∙◌, subst, arith, length-append}
 use Rattle.std.specs.Prelude.{Some, slice_get, unsigned_abs}
 use Rattle.std.specs.Option.{option_map_or}
 use Rattle.std.specs.Int.RustNames.{int_lt}
@@ -22,16 +22,21 @@ use Rattle.row_sums.proofs.Within.{part_of-le}
 use Rattle.row_sums.proofs.MoreVariables.{row_part-widened}
 use Rattle.sanlp.specs.declared.nest.Nest.{Nest}
 use Rattle.source_tree.specs.Checked.{IsRefuted}
+use Rattle.source_tree.specs.Places.{cell_rows, domain_rows}
 use Rattle.source_tree.specs.Rows.{RowExpr, Take, Plus, minus, number, one_less}
 use Rattle.source_tree.specs.Systems.{Context, Occurrence, multiple, with_rows, with_write_at, writer_place}
+use Rattle.source_tree.proofs.RowLists.{length-cell_rows, length-domain_rows}
 use Rattle.stride_rows.specs.Class.{stride_of}
-use Rattle.stride_trees.specs.Contexts.{own_system, AreMadeSmall, IsUndividedContext}
+use Rattle.stride_rows.specs.Cuts.{IsCutSum}
+use Rattle.stride_trees.specs.Candidates.{order_number, IsCutSumOf}
+use Rattle.stride_trees.specs.Contexts.{own_system, AreMadeSmall, IsNoIn}
 use Rattle.stride_trees.specs.Divisions.{division_of}
 use Rattle.stride_rows.specs.Sources.{loop_of}
-use Rattle.stride_trees.specs.Strides.{depth_of_read, depth_of_write, read_of, root_of, write_of, AreStrided, IsSmallContext, IsStrided, IsTestOf}
+use Rattle.stride_trees.specs.Strides.{depth_of_read, depth_of_write, read_of, write_of, AreStrided, IsSmallContext, IsStrided, IsTestOf}
 use Rattle.stride_trees.specs.declared.divisions.Division.{Division}
 use Rattle.stride_trees.specs.declared.strides.Strides.{Strides}
-use Rattle.stride_rows.proofs.Indivisible.{indivisible_proof, number_part, undivided_proof, undivided_refutes, AreUndivided}
+use Rattle.stride_rows.proofs.Indivisible.{indivisible_proof, number_part, undivided_is_cut_sum, undivided_proof}
+use Rattle.stride_rows.proofs.Indivisible.{undivided_refutes, AreUndivided}
 use Rattle.stride_trees.proofs.Lists.{forms_count, row_made}
 use Rattle.stride_trees.proofs.WriteSystems as standing
 use Rattle.stride_trees.proofs.Subscript as subscript
@@ -171,16 +176,66 @@ module _ (n : Nest) (r w : Occurrence) (p : ℕ) (c : Context) (here i : ℕ) (w
             (undivided b (loop_rows b rises)));
       }
 
+  -- its Cuts take no order row
+  before_order : order_number r w c ≡ here + (length forms + 2 * length w.access.subscripts)
+  before_order = omega (
+    arith,
+    length-append c.rows (domain_rows forms place ++ cell_rows w.access.subscripts r.access.subscripts place),
+    length-append (domain_rows forms place) (cell_rows w.access.subscripts r.access.subscripts place),
+    length-domain_rows forms place,
+    length-cell_rows w.access.subscripts r.access.subscripts place
+        (standing.fits n r w p c here strided small reader order order_made).even,
+    forms_count c.vars c.rows small.rows small.made,
+    small.count,
+  )
+
+  inside : i < length w.access.subscripts
+  inside = slice_get_within w.access.subscripts i write write_is
+
+  up_before : (b : Bool) → cond b row (row + 1) < order_number r w c
+  up_before true = omega (arith, before_order, inside)
+  up_before false = omega (arith, before_order, inside)
+
+  down_before : (b : Bool) → cond b (row + 1) row < order_number r w c
+  down_before true = omega (arith, before_order, inside)
+  down_before false = omega (arith, before_order, inside)
+
+  test_before : test + 1 < order_number r w c
+  test_before = omega (
+    arith,
+    before_order,
+    forms_count c.vars c.rows small.rows small.made,
+    small.count,
+    slice_get_within c.rows (test + 1)
+        (high_expr quotient (widened_form quotient (division_of i write read stride).form) (pos d)) second,
+  )
+
+  pub undivided_write_cuts : (b : Bool) → int_lt (pos 0) stride ≡ b
+      → IsCutSumOf (order_number r w c) (with_rows (with_write_at r c w) order)
+      (undivided_proof d test (cond b row (row + 1)) (cond b (row + 1) row)
+      (here + (length forms + (2 * length w.access.subscripts + length order))))
+  undivided_write_cuts b rises =
+      let up : ℕ = cond b row (row + 1) in
+      let down : ℕ = cond b (row + 1) row in
+      let small_whole = standing.whole_small n r w p c here strided small reader order order_made in
+      record {
+        rows = whole;
+        are_made = standing.own_made n r w p c here strided small reader order order_made;
+        is_cut_sum = subst (λ k. IsCutSum more whole (order_number r w c) (undivided_proof d test up down k)) whole_count
+            (undivided_is_cut_sum more whole d test up down f q v small_whole.over small_whole.within
+            (undivided b (loop_rows b rises)) (order_number r w c) test_before (up_before b) (down_before b));
+      }
+
 -- the same of what is made
 
-module _ (s : Strides) (d : Division) (strided : IsStrided s) (test : IsTestOf s d) (place here more : ℕ) (c : Context)
-    (at : IsUndividedContext s d place here c) (order : List RowExpr)
+module _ (s : Strides) (d : Division) (strided : IsStrided s) (test : IsTestOf s d) (test_row quotient here more : ℕ)
+    (c : Context) (at : IsNoIn d test_row quotient here c) (reader : depth_of_read s ≤ c.vars) (order : List RowExpr)
     (order_made : AreMadeSmall (c.vars + depth_of_write s) order) (count : length order ≡ more) (proof : Proof)
     (row above below all : ℕ) (row_is : row ≡ here + (length s.write.statement.now.rows + 2 * d.subscript))
     (above_is : above ≡ cond d.rises row (row + 1)) (below_is : below ≡ cond d.rises (row + 1) row)
     (all_is : all
     ≡ here + (length s.write.statement.now.rows + (2 * length s.write.access.now.subscripts + more)))
-    (proof_is : proof ≡ indivisible_proof d.divisor (root_of s + 2 * place) above below all) where
+    (proof_is : proof ≡ indivisible_proof d.divisor test_row above below all) where
   abbrev m : ℕ
   m = unsigned_abs test.stride
 
@@ -193,33 +248,34 @@ module _ (s : Strides) (d : Division) (strided : IsStrided s) (test : IsTestOf s
   abbrev of_subscript : Division
   of_subscript = division_of d.subscript test.write test.read test.stride
 
-  abbrev quotient : ℕ
-  quotient = depth_of_read s + place
-
-  abbrev own_test : ℕ
-  own_test = root_of s + 2 * place
-
-  own_first : slice_get c.rows own_test ≡ Some (low_expr quotient (widened_form quotient of_subscript.form) (pos m))
+  own_first : slice_get c.rows test_row ≡ Some (low_expr quotient (widened_form quotient of_subscript.form) (pos m))
   own_first = at.first ∙ ap (λ (t : Division). Some (low_expr quotient (widened_form quotient t.form) t.divisor)) test.is
 
-  own_second : slice_get c.rows (own_test + 1) ≡ Some (high_expr quotient (widened_form quotient of_subscript.form) (pos m))
+  own_second : slice_get c.rows (test_row + 1) ≡ Some (high_expr quotient (widened_form quotient of_subscript.form) (pos m))
   own_second = at.second ∙ ap (λ (t : Division). Some (high_expr quotient (widened_form quotient t.form) t.divisor)) test.is
 
-  own_proof : proof ≡ undivided_proof m own_test (cond d.rises own (own + 1)) (cond d.rises (own + 1) own)
+  own_proof : proof ≡ undivided_proof m test_row (cond d.rises own (own + 1)) (cond d.rises (own + 1) own)
       (number_of_rows (length order))
   own_proof =
       proof_is
-      ∙ ap (λ (t : Division). indivisible_proof t.divisor own_test above below all) test.is
-      ∙ ap (λ up. indivisible_proof (pos m) own_test up below all)
+      ∙ ap (λ (t : Division). indivisible_proof t.divisor test_row above below all) test.is
+      ∙ ap (λ up. indivisible_proof (pos m) test_row up below all)
       (above_is ∙ ap (λ row. cond d.rises row (row + 1)) row_is)
-      ∙ ap (λ down. indivisible_proof (pos m) own_test (cond d.rises own (own + 1)) down all)
+      ∙ ap (λ down. indivisible_proof (pos m) test_row (cond d.rises own (own + 1)) down all)
       (below_is ∙ ap (λ row. cond d.rises (row + 1) row) row_is)
-      ∙ ap (indivisible_proof (pos m) own_test (cond d.rises own (own + 1)) (cond d.rises (own + 1) own))
+      ∙ ap (indivisible_proof (pos m) test_row (cond d.rises own (own + 1)) (cond d.rises (own + 1) own))
       (all_is ∙ ap number_of_rows (sym count))
 
   pub undivided_refuted : IsRefuted (own_system s c order) proof
   undivided_refuted =
       subst (IsRefuted (own_system s c order)) (sym own_proof)
       (undivided_write_refuted s.nest.now (read_of s) (write_of s) s.level c here d.subscript test.write test.read test.stride
-      strided.strided at.small (omega (arith, at.inside)) test.write_is test.read_is test.stride_is own_test quotient own_first
-      own_second order order_made d.rises (sym (ap (λ (t : Division). t.rises) test.is)))
+      strided.strided at.small reader test.write_is test.read_is test.stride_is test_row quotient own_first own_second order
+      order_made d.rises (sym (ap (λ (t : Division). t.rises) test.is)))
+
+  pub undivided_cuts : IsCutSumOf (order_number (read_of s) (write_of s) c) (own_system s c order) proof
+  undivided_cuts =
+      subst (IsCutSumOf (order_number (read_of s) (write_of s) c) (own_system s c order)) (sym own_proof)
+      (undivided_write_cuts s.nest.now (read_of s) (write_of s) s.level c here d.subscript test.write test.read test.stride
+      strided.strided at.small reader test.write_is test.read_is test.stride_is test_row quotient own_first own_second order
+      order_made d.rises (sym (ap (λ (t : Division). t.rises) test.is)))

@@ -45,7 +45,7 @@ use Rattle.stride_rows.proofs.Places.{behind_kept, enough_behind, next_kept, str
 use Rattle.stride_trees.proofs.NoSystems.{few_others}
 use Rattle.stride_rows.proofs.Singles.{less_counts, loop_inside}
 use Rattle.stride_rows.proofs.RowSources.{counts_all}
-use Rattle.stride_trees.proofs.Systems.{moved_within, widened_test, IsTestForm}
+use Rattle.stride_trees.proofs.TestForms.{moved_within, widened_test, IsTestForm}
 
 -- The write's subscript
 

@@ -1,27 +1,24 @@
--- The rows of a write at a point and of a test of divisibility, by their numbers and their sizes.
+-- The rows of a write at a point, by their numbers and their sizes.
 --
 -- A subscript's two rows stand at twice its number behind the domain rows, and the rows of a level behind those of all
 -- subscripts. All are made of small forms by a few sums and multiples, so all can be made.
-use Rattle.std.proofs.Common.{◌≡◌, ◌+◌, ◌*◌, ◌^◌, ◌≤◌, ◌<◌, ℕ, zero, suc, ℤ, List, [], ◌∷◌, ◌++◌, length}
+use Rattle.std.proofs.Common.{◌≡◌, ◌+◌, ◌*◌, ◌^◌, ◌≤◌, ℕ, zero, suc, List, [], ◌∷◌, ◌++◌, length}
 use Rattle.std.proofs.Common.{Bool, true, false, cond, refl, sym, ap, ◌∙◌, arith, lt-ltb}
-use Rattle.std.specs.Prelude.{Option, Some, None, slice_get, nat_lt, unsigned_abs}
+use Rattle.std.specs.Prelude.{Option, Some, None, slice_get, nat_lt}
 use Rattle.std.specs.List.{list_all}
 use Rattle.std.specs.Option.{option_map}
 use Rattle.std.proofs.lemmas.Option.{same_Some, slice_get-map}
 use Rattle.std.proofs.lemmas.Bool.{and_parts}
 use Rattle.affine_core.specs.declared.form.Form.{Form}
-use Rattle.affine_core.specs.Affine.{variable_form}
 use Rattle.difference_graphs.proofs.ProblemBounds.{form_is, FormFits}
-use Rattle.difference_graphs.proofs.OrderEdges.{variable_over, variable_within}
-use Rattle.difference_graphs.proofs.RowBounds.{farther_row, minus_row, most_made, most_placed, most_taken, one_less_row, placed_row}
-use Rattle.difference_graphs.proofs.RowBounds.{taken_row, AreSmall, AreTaken, IsSmallRow, IsTaken, number_row}
+use Rattle.difference_graphs.proofs.RowBounds.{farther_row, minus_row, most_made, most_placed, most_taken, placed_row}
+use Rattle.difference_graphs.proofs.RowBounds.{taken_row, AreSmall, AreTaken, IsSmallRow, IsTaken}
 use Rattle.plain_data.proofs.Tests.{ltb-zero}
 use Rattle.plain_data.proofs.Lists.{slice_get-append_right}
 use Rattle.row_sums.proofs.Within.{IsWithin-weaker}
 use Rattle.sanlp.specs.WellFormed.{form_fits}
 use Rattle.source_tree.specs.Places.{at_place, cell_rows, order_rows}
-use Rattle.source_tree.specs.Rows.{RowExpr, Take, Plus, equal_rows, minus, number, one_less}
-use Rattle.source_tree.specs.Systems.{multiple, undivided_rows}
+use Rattle.source_tree.specs.Rows.{RowExpr, Take, equal_rows, minus, one_less}
 
 -- Numbers of rows
 
@@ -119,46 +116,5 @@ small_cells vars d depth (write ∷ writes) (read ∷ reads) place le few w r ta
         farther_row vars (most_taken + (most_placed + most_placed)) most_made (minus (Take read) (at_place write place))
             (omega arith) (minus_row vars most_taken most_placed (Take read) (at_place write place) of at),
         small_cells vars d depth writes reads place le few b.1 c.1 taken,
-      ),
-    )
-
--- a multiple of a quotient
-abbrev most_multiple : ℕ
-most_multiple = 2 ^ 32 * most_taken + most_taken
-
-multiple_row : (vars q : ℕ) (d : ℤ) → q < vars → unsigned_abs d ≤ 2 ^ 32
-    → IsSmallRow vars (multiple d q) most_multiple
-multiple_row vars q d lt small = record {
-  takes = (
-    (let long : length (variable_form (q + 1) q).coefs ≡ q + 1 = variable_over (q + 1) q (omega arith) in
-        omega (arith, long, lt)),
-    IsWithin-weaker 1 most_taken (variable_form (q + 1) q) (omega arith) (variable_within (q + 1) q),
-  );
-  reaches = omega (arith, small);
-}
-
-plus_row : (vars a b : ℕ) (e f : RowExpr) → IsSmallRow vars e a → IsSmallRow vars f b
-    → IsSmallRow vars (Plus e f) (a + b)
-plus_row vars a b e f h k = record { takes = (h.takes, k.takes); reaches = omega (arith, h.reaches, k.reaches) }
-
-pub small_undivided : (vars q : ℕ) (form : Form) (d : ℤ) → q < vars → IsTaken vars form → unsigned_abs d ≤ 2 ^ 32
-    → AreSmall vars (undivided_rows q form d)
-small_undivided vars q form d lt taken small =
-    let f : IsSmallRow vars (Take form) most_taken = taken_row vars form taken in
-    let m : IsSmallRow vars (multiple d q) most_multiple = multiple_row vars q d lt small in
-    let n : IsSmallRow vars (number d) most_taken = number_row vars d (omega (arith, small)) in
-    let next : IsSmallRow vars (one_less (Plus (multiple d q) (number d))) (most_multiple + most_taken + most_taken)
-    = one_less_row vars (most_multiple + most_taken) (Plus (multiple d q) (number d))
-    (plus_row vars most_multiple most_taken (multiple d q) (number d) m n) in (
-      farther_row vars (most_taken + (most_multiple + most_multiple) + most_taken) most_made
-          (one_less (minus (Take form) (multiple d q))) (omega arith)
-          (one_less_row vars (most_taken + (most_multiple + most_multiple)) (minus (Take form) (multiple d q))
-          (minus_row vars most_taken most_multiple (Take form) (multiple d q) f m)),
-      (
-        farther_row vars (most_multiple + most_taken + most_taken + (most_taken + most_taken)) most_made
-            (minus (one_less (Plus (multiple d q) (number d))) (Take form)) (omega arith)
-            (minus_row vars (most_multiple + most_taken + most_taken) most_taken
-            (one_less (Plus (multiple d q) (number d))) (Take form) next f),
-        tt,
       ),
     )

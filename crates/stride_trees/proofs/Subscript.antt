@@ -37,7 +37,7 @@ use Rattle.stride_trees.proofs.NoSystems.{stride_rows, AreStrideRows}
 use Rattle.stride_trees.proofs.Rows.{cells_at, AreCellRows}
 use Rattle.stride_rows.proofs.Singles.{loop_inside}
 use Rattle.stride_trees.proofs.WriteSystems as standing
-use Rattle.stride_trees.proofs.Systems.{stride_is, IsStrideOf}
+use Rattle.stride_trees.proofs.TestForms.{stride_is, IsStrideOf}
 
 -- the rows `M v - f` and `f - M v`, and their numbers
 pub record AreLoopRows (rows : List Form) (d up down : ℕ) (f v : RowParts) : Type 0 where

@@ -1,52 +1,51 @@
 -- A test of divisibility, checked for a writer and a level.
 --
--- Its no is the Zero leaf whose one system two Cuts and a Sum refute. In the context of its yes stand two rows more,
+-- Its no is the Zero leaf whose one system two Cuts and a Sum refute. In the context of an answer stand two rows more,
 -- whose numbers are those of the form and of the divisor, so it is as small as the context before. The tree is checked
 -- there by the tests behind, and at last by the tree below all of them.
-use Rattle.std.proofs.Common.{◌≡◌, ◌+◌, ◌*◌, ◌^◌, ◌≤◌, ◌<◌, ℕ, ℤ, pos, negsuc, ◌+ℤ◌, ◌*ℤ◌, ◌≤ℤ◌, List, [], ◌∷◌, ◌++◌}
-use Rattle.std.proofs.Common.{length, map, Bool, cond, refl, sym, ap, ◌∙◌, subst, arith, length-append}
-use Rattle.std.specs.Prelude.{Some, nat_lt, unsigned_abs}
-use Rattle.std.specs.Option.{option_and_then}
-use Rattle.std.specs.Int.RustNames.{int_lt}
+use Rattle.std.proofs.Common.{◌≡◌, ◌+◌, ◌*◌, ◌^◌, ◌≤◌, ◌<◌, ℕ, pos, negsuc, ◌+ℤ◌, ◌-ℤ◌, ◌≤ℤ◌, List, [], ◌∷◌, ◌++◌}
+use Rattle.std.proofs.Common.{length, map, cond, refl, sym, ap, ◌∙◌, subst, arith, length-append}
+use Rattle.std.specs.Prelude.{Some, nat_lt, slice_get, unsigned_abs}
 use Rattle.std.proofs.lemmas.Int.{ints}
 use Rattle.std.proofs.lemmas.List.{length-map}
 use Rattle.std.proofs.lemmas.List.Elements.{All-nil, All-cons, All-append}
 use Rattle.std.proofs.lemmas.Option.{slice_get_within}
-use Rattle.std.proofs.Math.Nat.{mul-le-mul_left}
 use Rattle.affine_core.specs.declared.form.Form.{Form}
-use Rattle.affine_core.specs.Affine.{variable_form, widened_form}
+use Rattle.affine_core.specs.Affine.{form_product, form_sum, variable_form, widened_form}
 use Rattle.int_polyhedra.specs.declared.system.Proof.{Proof}
 use Rattle.int_polyhedra.specs.Systems.{AreOver}
 use Rattle.std.proofs.lemmas.Bool.{eq-eqb, and_from}
-use Rattle.difference_graphs.specs.Level.{common_of}
+use Rattle.difference_graphs.proofs.Just.{none_system, zero_system}
 use Rattle.difference_graphs.proofs.ProblemBounds.{form_is, FormFits}
-use Rattle.difference_graphs.proofs.OrderEdges.{variable_over, variable_within}
+use Rattle.plain_data.proofs.Lists.{slice_get-append_right}
 use Rattle.difference_graphs.proofs.EdgeSums.{over_append, over_widened, within_widened}
 use Rattle.difference_graphs.proofs.RowBounds.{forms_append}
-use Rattle.row_sums.specs.Made.{parts_of}
-use Rattle.row_sums.specs.Parts.{Part, part_of, IsWithin}
-use Rattle.row_sums.proofs.SmallRows.{small_is_made}
-use Rattle.row_sums.proofs.Weights.{abs_product}
+use Rattle.row_sums.specs.Parts.{IsWithin}
+use Rattle.row_sums.proofs.SmallRows.{widened_length}
 use Rattle.row_sums.proofs.RowParts.{made_widens}
-use Rattle.row_sums.proofs.Within.{IsWithin-weaker, IsWithin-from_parts, part_of-le}
+use Rattle.row_sums.proofs.Within.{IsWithin-weaker}
 use Rattle.sanlp.proofs.Elements.{list_all_at}
 use Rattle.sanlp.specs.WellFormed.{form_fits}
-use Rattle.source_tree.specs.Checked.{at_divides}
-use Rattle.source_tree.specs.Rows.{RowExpr, Take, minus, row_form, row_forms}
-use Rattle.source_tree.specs.Systems.{Context, divided_rows, divides_no, divides_yes, multiple}
+use Rattle.source_tree.specs.Checked.{at_divides, at_zero, AreRefuted, IsRefuted}
+use Rattle.source_tree.specs.Rows.{RowExpr, Take, Plus, minus, number, one_less, row_forms}
+use Rattle.source_tree.specs.Systems.{Context, divided_rows, divides_no, divides_yes, multiple, one_more, undivided_rows}
 use Rattle.source_tree.specs.declared.tree.Tree.{Tree}
 use Rattle.source_tree.specs.declared.tree.Tree.TheVariants.{Zero}
 use Rattle.source_tree.specs.declared.tree.Tree.TheViews.{Divides}
-use Rattle.stride_trees.specs.Candidates.{AreNoneCutSums}
-use Rattle.stride_trees.specs.Divisions.{division_of}
-use Rattle.stride_trees.specs.Strides.{cell_number, depth_of_read, read_of, row_count, write_of, IsCheckedAt, IsNoLeaf}
+use Rattle.stride_trees.specs.Answers.{IsSmallTest}
+use Rattle.stride_trees.specs.Candidates.{order_number, AreCutSums, AreNoneCutSums, IsCutSumOf}
+use Rattle.stride_trees.specs.Contexts.{own_system, AreMadeSmall, IsNoIn}
+use Rattle.stride_trees.specs.Strides.{depth_of_read, depth_of_write, read_of, write_of, IsCheckedAt, IsNoLeaf}
 use Rattle.stride_trees.specs.Strides.{IsSmallContext, IsStrided, IsTested, IsTestOf}
 use Rattle.stride_trees.specs.declared.divisions.Division.{Division}
 use Rattle.stride_trees.specs.declared.strides.Strides.{Strides}
 use Rattle.stride_trees.proofs.ProblemBounds.{are_fitting, AreFitting}
-use Rattle.stride_rows.proofs.Indivisible.{indivisible_proof, near_from, size_from, IsNear}
-use Rattle.stride_trees.proofs.Systems.{no_checked, no_cut_sums, no_proof, stride_is, test_form, widened_test, IsStrideOf, IsSubscript}
-use Rattle.stride_trees.proofs.Systems.{IsTestForm}
+use Rattle.stride_trees.proofs.AnswerContexts as answer
+use Rattle.stride_trees.proofs.AnswerContexts.{two_rows}
+use Rattle.stride_trees.proofs.LevelOrders as of_level
+use Rattle.stride_trees.proofs.LevelOrders.{made_small}
+use Rattle.stride_trees.proofs.Lists.{forms_count}
+use Rattle.stride_trees.proofs.TestForms.{stride_is, test_form, IsStrideOf, IsTestForm}
 
 pub fitting_of : (s : Strides) → IsStrided s → AreFitting s.nest.now (read_of s) (write_of s) s.level
 fitting_of s strided = are_fitting s.nest.now (read_of s) (write_of s) s.level strided.strided
@@ -76,7 +75,7 @@ subscript_room s d strided test =
       slice_get_within s.write.access.now.subscripts d.subscript test.write test.write_is,
     )
 
--- The no
+-- The test
 
 module _ (s : Strides) (d : Division) (strided : IsStrided s) (test : IsTestOf s d) where
   abbrev fits : AreFitting s.nest.now (read_of s) (write_of s) s.level
@@ -102,155 +101,44 @@ module _ (s : Strides) (d : Division) (strided : IsStrided s) (test : IsTestOf s
       (test_form d.subscript (length s.write.statement.now.loops) (depth_of_read s) test.write test.read test.stride
       write_fits read_fits)
 
-  -- the no tree
-  module _ (here : ℕ) (proof : Proof) (tree : Tree) (row above below count : ℕ)
-      (row_is : row ≡ cell_number s here d.subscript) (above_is : above ≡ cond d.rises row (row + 1))
-      (below_is : below ≡ cond d.rises (row + 1) row) (count_is : count ≡ row_count s here)
-      (proof_is : proof ≡ indivisible_proof d.divisor here above below count) (tree_is : tree ≡ Zero (proof ∷ [])) where
-    abbrev rises : Bool
-    rises = int_lt (pos 0) test.stride
+pub small_test : (s : Strides) (d : Division) → IsStrided s → IsTestOf s d → IsSmallTest (depth_of_read s) d
+small_test s d strided test =
+    let form : IsTestForm (depth_of_read s) d.form = form_small s d strided test in
+    let stride : IsStrideOf test.stride = of_stride s d strided test in
+    let divisor : d.divisor ≡ pos (unsigned_abs test.stride) = divisor_is s d strided test in
+    record {
+      over = form.over;
+      within = form.within;
+      divisor = subst (λ z. pos 2 ≤ℤ z) (sym divisor) (two_below (unsigned_abs test.stride) stride.at_least);
+      small = omega (arith, ap unsigned_abs divisor, stride.small);
+    } where
+      two_below : (m : ℕ) → 1 < m → pos 2 ≤ℤ pos m
+      two_below m lt = omega (arith, ints, lt)
 
-    rises_is : d.rises ≡ rises
-    rises_is = ap (λ (d : Division). d.rises) test.is
+-- Two rows of a test behind those of a context
 
-    abbrev cell : ℕ
-    cell = cell_number s here d.subscript
-
-    abbrev size : ℤ
-    size = pos (unsigned_abs test.stride)
-
-    whole_count : row_count s here
-        ≡ here + (2 + (length s.write.statement.now.rows + (2 * length s.write.access.now.subscripts
-        + (2 * s.level + cond (nat_lt s.level (common_of (write_of s) (read_of s))) 1 0))))
-    whole_count = ap (λ n. here + (2 + (length s.write.statement.now.rows + (2 * length s.write.access.now.subscripts
-        + (2 * s.level + cond (nat_lt s.level n) 1 0))))) strided.common
-
-    own_proof : proof ≡ no_proof (read_of s) (write_of s) s.level here d.subscript test.stride
-    own_proof =
-        proof_is ∙ ap (λ z. indivisible_proof z here above below count) divisor_is
-        ∙ ap (λ up. indivisible_proof size here up below count)
-        (above_is ∙ ap (λ row. cond d.rises row (row + 1)) row_is ∙ ap (λ b. cond b cell (cell + 1)) rises_is)
-        ∙ ap (λ down. indivisible_proof size here (cond rises cell (cell + 1)) down count)
-        (below_is ∙ ap (λ row. cond d.rises (row + 1) row) row_is ∙ ap (λ b. cond b (cell + 1) cell) rises_is)
-        ∙ ap (indivisible_proof size here (cond rises cell (cell + 1)) (cond rises (cell + 1) cell))
-        (count_is ∙ whole_count)
-
-    subscript_in : (c : Context) → depth_of_read s ≤ c.vars → IsSmallContext c here
-        → IsSubscript s.nest.now (read_of s) (write_of s) s.level c here d.subscript test.write test.read test.stride
-    subscript_in c deep small = record {
-      strided = strided.strided;
-      small = small;
-      reader = deep;
-      write_is = test.write_is;
-      read_is = test.read_is;
-      stride_is = test.stride_is;
-    }
-
-    pub no_is_checked : IsNoLeaf s here d tree
-    no_is_checked = record {
-      proofs = proof ∷ [];
-      is = tree_is;
-      checked = λ c deep small.
-          (let here_of : IsSubscript s.nest.now (read_of s) (write_of s) s.level c here d.subscript test.write test.read
-          test.stride = subscript_in c deep small in
-          subst (λ (t : Division). IsCheckedAt s (divides_no c (widened_form c.vars t.form) t.divisor) tree)
-          (sym test.is)
-          (no_checked s.nest.now (read_of s) (write_of s) s.level c here d.subscript test.write test.read test.stride
-          here_of tree (tree_is ∙ ap (λ proof. Zero (proof ∷ [])) own_proof)));
-      cuts = λ c deep small.
-          subst (λ (t : Division). AreNoneCutSums (read_of s) (write_of s) s.level
-          (divides_no c (widened_form c.vars t.form) t.divisor) (proof ∷ [])) (sym test.is)
-          (subst (λ proof. AreNoneCutSums (read_of s) (write_of s) s.level
-          (divides_no c (widened_form c.vars (division_of d.subscript test.write test.read test.stride).form)
-          (division_of d.subscript test.write test.read test.stride).divisor) (proof ∷ [])) (sym own_proof)
-          (no_cut_sums s.nest.now (read_of s) (write_of s) s.level c here d.subscript test.write test.read test.stride
-          (subscript_in c deep small)));
-    }
-
--- The yes
-
--- a number times another one that is -1, 0 or 1
-size_times : (q : ℤ) (m : ℕ) → unsigned_abs q ≤ 1 → unsigned_abs (q *ℤ pos m) ≤ m
-size_times q m h = omega (arith, abs_product q (pos m), mul-le-mul_left m h)
-
--- the two rows of a yes
-pub record AreYesRows (q : ℕ) (form : Form) (d : ℤ) : Type 0 where
+-- two rows, as they are made
+pub record AreTwoRows (vars : ℕ) (rows : List RowExpr) : Type 0 where
   pub first : Form
   pub second : Form
-  pub made : row_forms (q + 1) (divided_rows q form d) ≡ Some (first ∷ second ∷ [])
-  pub first_over : length first.coefs ≡ q + 1
-  pub second_over : length second.coefs ≡ q + 1
+  pub made : row_forms vars rows ≡ Some (first ∷ second ∷ [])
+  pub first_over : length first.coefs ≡ vars
+  pub second_over : length second.coefs ≡ vars
   pub first_within : IsWithin (2 ^ 41) first
   pub second_within : IsWithin (2 ^ 41) second
-  pub first_parts : (part : Part) → part_of part first ≡ parts_of (minus (Take form) (multiple d q)) part
-  pub second_parts : (part : Part) → part_of part second ≡ parts_of (minus (multiple d q) (Take form)) part
 
-pub yes_rows : (q : ℕ) (form : Form) (m : ℕ) → m ≤ 2 ^ 32 → IsTestForm q form → AreYesRows q form (pos m)
-yes_rows q form m small h =
-    let v : Form = variable_form (q + 1) q in
-    let long : length v.coefs ≡ q + 1 = variable_over (q + 1) q (omega arith) in
-    let wide : IsWithin (2 ^ 33) v = IsWithin-weaker 1 (2 ^ 33) v (omega arith) (variable_within (q + 1) q) in
-    let x : RowExpr = minus (Take form) (multiple (pos m) q) in
-    let y : RowExpr = minus (multiple (pos m) q) (Take form) in
-    let short : length form.coefs ≤ q + 1 = omega (arith, h.over) in
-    let even : length v.coefs ≤ q + 1 = omega (arith, long) in
-    let a = small_is_made (q + 1) (2 ^ 33) x ((short, h.within), (even, wide)) (omega (arith, small)) in
-    let b = small_is_made (q + 1) (2 ^ 33) y ((even, wide), (short, h.within)) (omega (arith, small)) in
-    let near_v : (part : Part) → IsNear (2 ^ 32) (part_of part v *ℤ pos m) =
-    λ part. near_from (2 ^ 32) (part_of part v *ℤ pos m)
-    (omega (arith, small, size_times (part_of part v) m (part_of-le 1 v part (variable_within (q + 1) q)))) in
-    let near_f : (part : Part) → IsNear (2 ^ 33) (part_of part form) =
-    λ part. near_from (2 ^ 33) (part_of part form) (part_of-le (2 ^ 33) form part h.within) in
-    record {
-      first = a.0;
-      second = b.0;
-      made = ap (option_and_then (λ row. option_and_then (λ rows. Some (row ∷ rows))
-          (option_and_then (λ row. option_and_then (λ rows. Some (row ∷ rows)) (Some [])) (row_form (q + 1) y)))) a.1.is
-          ∙ ap (λ o. option_and_then (λ rows. Some (a.0 ∷ rows))
-          (option_and_then (λ row. option_and_then (λ rows. Some (row ∷ rows)) (Some [])) o)) b.1.is;
-      first_over = a.1.over;
-      second_over = b.1.over;
-      first_parts = a.1.parts;
-      second_parts = b.1.parts;
-      first_within = IsWithin-from_parts (2 ^ 41) a.0
-          (λ part. omega (
-            arith,
-            ap unsigned_abs (a.1.parts part),
-            first_size (part_of part form) (part_of part v *ℤ pos m)
-                (near_f part) (wider (part_of part v *ℤ pos m) (near_v part)),
-          ));
-      second_within = IsWithin-from_parts (2 ^ 41) b.0
-          (λ part. omega (
-            arith,
-            ap unsigned_abs (b.1.parts part),
-            first_size (part_of part v *ℤ pos m) (part_of part form)
-                (wider (part_of part v *ℤ pos m) (near_v part)) (near_f part),
-          ));
-    } where
-      wider : (z : ℤ) → IsNear (2 ^ 32) z → IsNear (2 ^ 33) z
-      wider z h = record { above = omega (arith, ints, h.above); below = omega (arith, ints, h.below) }
-
-      first_size : (a b : ℤ) → IsNear (2 ^ 33) a → IsNear (2 ^ 33) b → unsigned_abs (a +ℤ (b *ℤ negsuc 0)) ≤ 2 ^ 41
-      first_size a b h k = size_from (2 ^ 41) (a +ℤ (b *ℤ negsuc 0))
-          (record {
-            above = omega (arith, ints, h.above, h.below, k.above, k.below);
-            below = omega (arith, ints, h.above, h.below, k.above, k.below);
-          })
-
-pub yes_small : (c : Context) (form : Form) (m here : ℕ) → m ≤ 2 ^ 32 → IsTestForm c.vars form → IsSmallContext c here
-    → IsSmallContext (divides_yes c form (pos m)) (here + 2)
-yes_small c form m here small h k =
+pub two_more : (c : Context) (rows : List RowExpr) (here : ℕ) → AreTwoRows (c.vars + 1) rows → IsSmallContext c here
+    → IsSmallContext (one_more c rows) (here + 2)
+two_more c rows here y k =
     let more : ℕ = c.vars + 1 in
     let wide : List Form = map (widened_form more) k.rows in
-    let y : AreYesRows c.vars form (pos m) = yes_rows c.vars form m small h in
     let two : List Form = y.first ∷ y.second ∷ [] in
     let two_over : AreOver more two =
     and_from _ _ (eq-eqb (length y.first.coefs) more y.first_over)
     (and_from _ _ (eq-eqb (length y.second.coefs) more y.second_over) refl) in
     record {
       rows = wide ++ two;
-      made = forms_append more c.rows (divided_rows c.vars form (pos m)) wide two
-          (made_widens c.vars more c.rows k.rows (omega arith) k.made) y.made;
+      made = forms_append more c.rows rows wide two (made_widens c.vars more c.rows k.rows (omega arith) k.made) y.made;
       count = omega (arith, length-append wide two, length-map k.rows (widened_form more), k.count);
       over = over_append more wide two (over_widened c.vars more k.rows (omega arith) k.over) two_over;
       within = All-append (IsWithin (2 ^ 50)) wide two
@@ -260,6 +148,117 @@ yes_small c form m here small h k =
           (All-cons (IsWithin (2 ^ 50)) y.second [] (IsWithin-weaker (2 ^ 41) (2 ^ 50) y.second (omega arith) y.second_within)
           (All-nil _)));
     }
+
+module _ (q depth : ℕ) (d : Division) (test : IsSmallTest depth d) (deep : depth ≤ q) where
+  abbrev own : Form
+  own = widened_form q d.form
+
+  abbrev form : Form
+  form = widened_form (q + 1) d.form
+
+  abbrev quotients : Form
+  quotients = form_product d.divisor (variable_form (q + 1) q)
+
+  pub yes_rows : AreTwoRows (q + 1) (divided_rows q own d.divisor)
+  yes_rows =
+      let first : Form = form_sum form (form_product (negsuc 0) quotients) in
+      let second : Form = form_sum quotients (form_product (negsuc 0) form) in
+      record {
+        first = first;
+        second = second;
+        made = two_rows (q + 1) (minus (Take own) (multiple d.divisor q)) (minus (multiple d.divisor q) (Take own)) first second
+            (answer.above_is q depth d test deep form quotients refl refl)
+            (answer.below_is q depth d test deep form quotients refl refl);
+        first_over = answer.above_over q depth d test deep form quotients refl refl;
+        second_over = answer.below_over q depth d test deep form quotients refl refl;
+        first_within = answer.above_within q depth d test deep form quotients refl refl;
+        second_within = answer.below_within q depth d test deep form quotients refl refl;
+      }
+
+  pub no_rows : AreTwoRows (q + 1) (undivided_rows q own d.divisor)
+  no_rows =
+      let above : Form = form_sum form (form_product (negsuc 0) quotients) in
+      let last : Form = record quotients { constant = quotients.constant +ℤ (d.divisor -ℤ pos 1) } in
+      let first : Form = record above { constant = above.constant +ℤ negsuc 0 } in
+      let second : Form = form_sum last (form_product (negsuc 0) form) in
+      record {
+        first = first;
+        second = second;
+        made = two_rows (q + 1) (one_less (minus (Take own) (multiple d.divisor q)))
+            (minus (one_less (Plus (multiple d.divisor q) (number d.divisor))) (Take own)) first second
+            (answer.strict_is q depth d test deep form quotients refl refl)
+            (answer.last_is q depth d test deep form quotients refl refl);
+        first_over = answer.above_over q depth d test deep form quotients refl refl;
+        second_over = answer.last_over q depth d test deep form quotients refl refl;
+        first_within = answer.strict_within q depth d test deep form quotients refl refl;
+        second_within = answer.last_within q depth d test deep form quotients refl refl;
+      }
+
+module _ (s : Strides) (d : Division) (here : ℕ) (c : Context) (strided : IsStrided s) (test : IsTestOf s d)
+    (deep : depth_of_read s ≤ c.vars) (small : IsSmallContext c here) where
+  -- the context of a yes, and that of a no
+  pub yes_small : IsSmallContext (divides_yes c (widened_form c.vars d.form) d.divisor) (here + 2)
+  yes_small = two_more c (divided_rows c.vars (widened_form c.vars d.form) d.divisor) here
+      (yes_rows c.vars (depth_of_read s) d (small_test s d strided test) deep) small
+
+  no_in : IsNoIn d here c.vars (here + 2) (divides_no c (widened_form c.vars d.form) d.divisor)
+  no_in =
+      let no : List RowExpr = undivided_rows c.vars (widened_form c.vars d.form) d.divisor in
+      let count : length c.rows ≡ here = sym (forms_count c.vars c.rows small.rows small.made) ∙ small.count in
+      let first : here ≡ length c.rows + 0 = omega (arith, count) in
+      let next : here + 1 ≡ length c.rows + 1 = omega (arith, count) in
+      record {
+        small = two_more c no here (no_rows c.vars (depth_of_read s) d (small_test s d strided test) deep) small;
+        first = ap (slice_get (c.rows ++ no)) first ∙ slice_get-append_right c.rows no 0;
+        second = ap (slice_get (c.rows ++ no)) next ∙ slice_get-append_right c.rows no 1;
+      }
+
+-- Its Zero leaf has one system: a write before the read, with the order rows of the level.
+module _ (s : Strides) (d : Division) (here : ℕ) (strided : IsStrided s) (test : IsTestOf s d) (c : Context)
+    (deep : depth_of_read s ≤ c.vars) (small : IsSmallContext c here) where
+  abbrev no : Context
+  no = divides_no c (widened_form c.vars d.form) d.divisor
+
+  there : depth_of_read s ≤ no.vars
+  there = omega (arith, deep)
+
+  abbrev rows : List RowExpr
+  rows = (of_level.level s strided no there).rows
+
+  module _ (more : ℕ) (proof : Proof) (count : more ≡ 2 * s.level + cond (nat_lt s.level s.common) 1 0)
+      (refutes : (c : Context) (order : List RowExpr) (quotient : ℕ) → IsNoIn d here quotient (here + 2) c
+      → depth_of_read s ≤ c.vars → AreMadeSmall (c.vars + depth_of_write s) order → length order ≡ more
+      → IsRefuted (own_system s c order) proof
+      × IsCutSumOf (order_number (read_of s) (write_of s) c) (own_system s c order) proof) where
+    both : IsRefuted (own_system s no (rows ++ [])) proof
+        × IsCutSumOf (order_number (read_of s) (write_of s) no) (own_system s no (rows ++ [])) proof
+    both = refutes no (rows ++ []) c.vars (no_in s d here c strided test deep small) there
+        (made_small (no.vars + depth_of_write s) (rows ++ []) (of_level.only_small s strided no there))
+        (omega (arith, length-append rows [], of_level.level_long s strided no there, count))
+
+    no_checked : (tree : Tree) → tree ≡ Zero (proof ∷ []) → IsCheckedAt s no tree
+    no_checked tree is = at_zero no tree (proof ∷ []) is
+        (subst (λ systems. AreRefuted systems (proof ∷ []))
+        (sym (zero_system s.nest.now (read_of s) (write_of s) s.level no rows strided.strided.write
+        (of_level.level s strided no there).is)) (both.0, tt))
+
+    no_cuts : AreNoneCutSums (read_of s) (write_of s) s.level no (proof ∷ [])
+    no_cuts = subst (λ systems. AreCutSums (order_number (read_of s) (write_of s) no) systems (proof ∷ []))
+        (sym (none_system (read_of s) (write_of s) s.level no rows (of_level.level s strided no there).is)) (both.1, tt)
+
+pub no_is_checked : (s : Strides) (d : Division) (here more : ℕ) (proof : Proof) (tree : Tree) → IsStrided s → IsTestOf s d
+    → more ≡ 2 * s.level + cond (nat_lt s.level s.common) 1 0 → tree ≡ Zero (proof ∷ [])
+    → ((c : Context) (order : List RowExpr) (quotient : ℕ) → IsNoIn d here quotient (here + 2) c → depth_of_read s ≤ c.vars
+    → AreMadeSmall (c.vars + depth_of_write s) order → length order ≡ more
+    → IsRefuted (own_system s c order) proof
+    × IsCutSumOf (order_number (read_of s) (write_of s) c) (own_system s c order) proof)
+    → IsNoLeaf s here d tree
+no_is_checked s d here more proof tree strided test count is refutes = record {
+  proofs = proof ∷ [];
+  is = is;
+  checked = λ c deep small. no_checked s d here strided test c deep small more proof count refutes tree is;
+  cuts = λ c deep small. no_cuts s d here strided test c deep small more proof count refutes;
+}
 
 -- A test, and then more tests
 
@@ -275,12 +274,7 @@ tested_next s vars here d ds last above below tree form strided test deep few re
     tree_is ∙ ap (λ form. Divides form d.divisor above below) form_own in
     let next_of : (c : Context) → c.vars ≡ vars → IsSmallContext c here
     → IsSmallContext (divides_yes c (widened_form c.vars d.form) d.divisor) (here + 2)
-    = λ c vars_is small.
-    (let form_ok : IsTestForm c.vars (widened_form c.vars d.form) =
-    widened_test (depth_of_read s) c.vars d.form (omega (arith, deep, vars_is)) (form_small s d strided test) in
-    subst (λ z. IsSmallContext (divides_yes c (widened_form c.vars d.form) z) (here + 2)) (sym (divisor_is s d strided test))
-    (yes_small c (widened_form c.vars d.form) (unsigned_abs test.stride) here (of_stride s d strided test).small form_ok
-    small)) in
+    = λ c vars_is small. yes_small s d here c strided test (omega (arith, deep, vars_is)) small in
     record {
       tests = λ c vars_is small. (
         above,
@@ -292,12 +286,10 @@ tested_next s vars here d ds last above below tree form strided test deep few re
       );
       checked = λ c vars_is small h.
           (let f : Form = widened_form c.vars d.form in
-          let form_ok : IsTestForm c.vars f =
-          widened_test (depth_of_read s) c.vars d.form (omega (arith, deep, vars_is)) (form_small s d strided test) in
-          let stride : IsStrideOf test.stride = of_stride s d strided test in
+          let numbers : IsSmallTest (depth_of_read s) d = small_test s d strided test in
           at_divides c tree f d.divisor above below
-          (own ∙ ap (λ n. Divides (widened_form n d.form) d.divisor above below) (sym vars_is)) form_ok.over
-          (subst (λ z. pos 2 ≤ℤ z) (sym (divisor_is s d strided test)) (omega (arith, ints, stride.at_least)))
+          (own ∙ ap (λ n. Divides (widened_form n d.form) d.divisor above below) (sym vars_is))
+          (widened_length d.form.coefs c.vars (omega (arith, numbers.over, deep, vars_is))) numbers.divisor
           (omega (arith, few, vars_is))
           (rest.checked (divides_yes c f d.divisor) (ap (λ n. n + 1) vars_is) (next_of c vars_is small) h)
           (leaf.checked c (omega (arith, deep, vars_is)) small));

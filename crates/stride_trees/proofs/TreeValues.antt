@@ -47,7 +47,7 @@ use Rattle.stride_trees.specs.declared.divisions.Division.{Division}
 use Rattle.stride_trees.specs.declared.strides.Strides.{Strides}
 use Rattle.stride_trees.proofs.ProblemBounds.{are_fitting, AreFitting}
 use Rattle.stride_rows.proofs.Floors.{divides_multiple}
-use Rattle.stride_trees.proofs.Systems.{test_form}
+use Rattle.stride_trees.proofs.TestForms.{test_form}
 use Rattle.stride_trees.proofs.TestNodes.{divisor_is, form_small, of_stride}
 use Rattle.stride_trees.proofs.QuotientValues.{rows_hold, subscript_means, test_value}
 

@@ -1,10 +1,10 @@
 -- Tests whether the stride of a write's subscript divides what the read's is from it.
-use Rattle.std.specs.Prelude.{◌+◌, ◌-◌, ℕ, ℤ, pos, negsuc, ◌-ℤ◌, Bool, ◌&&◌, not, List, [], ◌∷◌, ◌++◌, unsigned_abs, if◌then◌else◌}
+use Rattle.std.specs.Prelude.{◌+◌, ℕ, ℤ, pos, negsuc, ◌-ℤ◌, Bool, ◌&&◌, not, List, [], ◌∷◌, ◌++◌, unsigned_abs, if◌then◌else◌}
 use Rattle.std.specs.List.{list_all, list_any, range_with_len}
 use Rattle.std.specs.Option.{option_map_or}
 use Rattle.std.specs.Int.RustNames.{int_lt}
 use Rattle.affine_core.specs.declared.form.Form.{Form}
-use Rattle.affine_core.specs.Affine.{form_product, form_sum, variable_form, widened_form}
+use Rattle.affine_core.specs.Affine.{form_product, widened_form}
 use Rattle.source_tree.specs.Systems.{Context, divides_yes}
 use Rattle.source_tree.specs.Walk.{divides}
 use Rattle.stride_rows.specs.Class.{stride_of}
@@ -52,11 +52,3 @@ abbrev pub divided_context : Context → List Division → Context
 divided_context c [] = c
 divided_context c (d ∷ ds) =
     divided_context (divides_yes c (widened_form c.vars d.form) d.divisor) ds
-
--- the rows `form - d q` and `d q - form` of a test that says yes, whose quotient q is the last of so many variables
-abbrev pub quotient_rows : ℕ → Division → List Form
-quotient_rows vars d =
-    form_sum (widened_form vars d.form)
-    (form_product (negsuc 0) (form_product d.divisor (variable_form vars (vars - 1))))
-    ∷ form_sum (form_product d.divisor (variable_form vars (vars - 1)))
-    (form_product (negsuc 0) (widened_form vars d.form)) ∷ []

@@ -1,3 +1,4 @@
+pub mod Answers
 pub mod CommonDivisors
 pub mod Divisions
 pub mod Candidates

@@ -1,5 +1,5 @@
 -- The writes of one statement at one level before a read, where the subscripts may be strides.
-use Rattle.std.specs.Prelude.{◌≡◌, ◌≤◌, ◌<◌, ◌≤ℤ◌, ◌+◌, ◌*◌, ◌^◌, ◌++◌, ℕ, ℤ, pos, List, length, nat_lt, All, Some, slice_get, IsTrue, if◌then◌else◌}
+use Rattle.std.specs.Prelude.{◌≡◌, ◌≤◌, ◌<◌, ◌≤ℤ◌, ◌+◌, ◌^◌, ◌++◌, ℕ, ℤ, pos, List, length, All, Some, slice_get, IsTrue}
 use Rattle.affine_core.specs.declared.form.Form.{Form}
 use Rattle.affine_core.specs.Affine.{widened_form}
 use Rattle.int_polyhedra.specs.declared.system.Proof.{Proof}
@@ -74,18 +74,6 @@ pub record ArePlaces (s : Strides) (vars : ℕ) (places : List ℕ) : Type 0 whe
   pub each : All (λ i. depth_of_read s + i < vars) places
   pub enough : stride_count (write_of s) ≤ length places
   pub few : vars ≤ depth_of_read s + 6
-
--- Below the no of a test, whose context has so many rows before the test's: the number of the first row of a
--- subscript, and how many rows the system of a write before the read has.
-abbrev pub cell_number : Strides → ℕ → ℕ → ℕ
-cell_number s here subscript =
-    here + (2 + (length s.write.statement.now.rows + 2 * subscript))
-
-abbrev pub row_count : Strides → ℕ → ℕ
-row_count s here =
-    here + (2 + (length s.write.statement.now.rows
-    + (2 * length s.write.access.now.subscripts
-    + (2 * s.level + (if nat_lt s.level s.common then 1 else 0)))))
 
 -- a context, as it is made: so many rows with small numbers
 pub record IsSmallContext (c : Context) (here : ℕ) : Type 0 where

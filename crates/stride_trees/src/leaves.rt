@@ -1,6 +1,6 @@
 //! The tree of the problem over quotients as one of the statements: its proofs refute their systems.
 
-ghost use Rattle.std.specs.Prelude.{◌≡◌, ◌≤◌, ◌<◌, ◌+◌, ◌*◌, ◌^◌, ◌++◌, ℕ, List, length, map, nat_lt, All, IfOk, OnOk, if◌then◌else◌};
+ghost use Rattle.std.specs.Prelude.{◌≡◌, ◌≤◌, ◌<◌, ◌+◌, ◌*◌, ◌^◌, ◌++◌, ℕ, List, length, map, All, IfOk, OnOk};
 ghost use Rattle.affine_core.specs.declared.form.Form.{Form as FormOf};
 ghost use Rattle.difference_graphs.specs.Simple.{IsLightSum, IsSimple};
 ghost use Rattle.difference_graphs.specs.Systems.{none_systems, place_systems, IsCheckedFor};
@@ -15,22 +15,13 @@ ghost use Rattle.stride_trees.specs.Strides.{depth_of_write, read_of, write_of, 
 
 use crate::convert::{back, converted_place, converted_write, front, sum_terms};
 use crate::strides::Strides;
+use crate::undivided::level_count;
 use affine_core::KeptForm;
 use difference_graphs::test;
 use int_polyhedra::Proof;
 use plain_data::Items;
 use source_tree::Tree;
 use std::alloc::{AllocError, Global};
-
-// How many order rows stand before the read.
-fn level_count(s: &Strides) -> u32
-    requires { IsStrided s.now }
-    ensures value { result ≡ 2 * s.now.level + (if nat_lt s.now.level s.now.common then 1 else 0) }
-    ensures few { result ≤ 13 }
-{
-    let level = 2 * s.level as u32;
-    if s.level < s.common { level + 1 } else { level }
-}
 
 // Adds the proofs that the reader is not before a place and not at it: they are the same.
 fn push_after(proofs: &mut Items<Proof>, alloc: Global, told: &[Proof]) -> Result<(), AllocError>

@@ -20,6 +20,7 @@ mod undivided;
 
 pub use always::{always_divides, no_is_nowhere};
 pub use candidate::{stride_candidate, strides_of};
+pub use contexts::below_test;
 pub use convert::{converted_place, converted_write};
 pub use divisions::{Division, divisions_of};
 pub use leaves::converted_tree;

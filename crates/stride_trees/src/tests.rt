@@ -1,48 +1,15 @@
-ghost use Rattle.std.specs.Prelude.{◌≡◌, ◌≤◌, ◌+◌, ◌*◌, [], ◌∷◌, length, nat_lt, All, IfOk, if◌then◌else◌};
+ghost use Rattle.std.specs.Prelude.{◌≡◌, ◌≤◌, ◌+◌, ◌*◌, [], ◌∷◌, length, All, IfOk};
 ghost use Rattle.source_tree.specs.declared.tree.Tree.TheViews.{Divides as DividesOf};
-ghost use Rattle.stride_trees.specs.Strides.{cell_number, depth_of_read, read_of, row_count as rows_of, IsNoLeaf, IsStrided, IsTested, IsTestOf};
+ghost use Rattle.stride_trees.specs.Strides.{depth_of_read, read_of, IsNoLeaf, IsStrided, IsTested, IsTestOf};
 
 use crate::divisions::Division;
 use crate::strides::Strides;
-use crate::undivided::{indivisible, row_above, row_below};
+use crate::undivided::{level_count, undivided_behind};
 use affine_core::{Form, KeptForm, KeptNumber};
 use int_polyhedra::Proof;
 use plain_data::{Boxed, Items};
 use source_tree::Tree;
 use std::alloc::{AllocError, Global};
-
-// The first row of a test's subscript, below the no of the test.
-fn cell(s: &Strides, division: &Division, here: u32) -> u32
-    requires strided { IsStrided s.now }
-    requires test { IsTestOf s.now division.now }
-    requires here { here ≤ 4096 }
-    ensures value { result ≡ cell_number s.now here division.now.subscript }
-    ensures few { result ≤ 5000 }
-{
-    let domain = s.write.statement.rows.len() as u32;
-    here + (2 + (domain + 2 * division.subscript))
-}
-
-// How many strict rows the level has.
-fn strict_count(s: &Strides) -> u32
-    ensures value { result ≡ (if nat_lt s.now.level s.now.common then 1 else 0) }
-    ensures few { result ≤ 1 }
-{
-    if s.level < s.common { 1 } else { 0 }
-}
-
-// How many rows the system below the no of a test has.
-fn row_count(s: &Strides, here: u32) -> u32
-    requires strided { IsStrided s.now }
-    requires here { here ≤ 4096 }
-    ensures value { result ≡ rows_of s.now here }
-    ensures few { result ≤ 5000 }
-{
-    let domain = s.write.statement.rows.len() as u32;
-    let subscripts = s.write.access.subscripts.len() as u32;
-    let level = s.level as u32;
-    here + (2 + (domain + (2 * subscripts + (2 * level + strict_count(s)))))
-}
 
 fn zero_leaf(alloc: Global, proof: Proof) -> Result<Tree, AllocError>
     ensures { IfOk result (λ tree. tree ≡ Tree.Zero (proof ∷ [])) }
@@ -81,11 +48,8 @@ fn no_leaf(s: &Strides, division: &Division, here: u32) -> Result<Tree, AllocErr
     requires here { here ≤ 4096 }
     ensures { IfOk result (IsNoLeaf s.now here division.now) }
 {
-    let count = row_count(s, here);
-    let row = cell(s, division, here);
-    let above = row_above(division, row);
-    let below = row_below(division, row);
-    let proof = indivisible(s.alloc, division, here, above, below, count)?;
+    let more = level_count(s);
+    let proof = undivided_behind(s, division, here, here + 2, more)?;
     zero_leaf(s.alloc, proof)
 }
 

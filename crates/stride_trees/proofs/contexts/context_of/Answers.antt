@@ -1,13 +1,12 @@
 use Rattle.std.proofs.Common.{◌++◌, length, sym, ap, ◌∙◌, subst, arith}
 use Rattle.std.specs.Prelude.{All}
 use Rattle.std.proofs.lemmas.Result.{IfOk-weaker}
-use Rattle.int_polyhedra.specs.Systems.{AreOver}
-use Rattle.lex_max.specs.Leaves.{IsMadeFrom}
+use Rattle.difference_graphs.specs.Contexts.{IsMadeAs}
 use Rattle.source_tree.specs.Systems.{root_context}
 use Rattle.stride_trees.specs.Divisions.{divided_context}
-use Rattle.stride_trees.specs.Strides.{read_of, IsTestOf}
+use Rattle.stride_trees.specs.Strides.{read_of, tests_of, IsTestOf}
 use Rattle.stride_trees.proofs.TestCounts.{few_tests, tests_are}
-use Rattle.stride_trees.proofs.YesContexts.{root_made}
+use Rattle.stride_trees.proofs.YesContexts.{made_from, root_made, root_small}
 use Rattle.stride_trees.proofs.TestNodes.{fitting_of}
 use Rattle.stride_trees.proofs.contexts.context_of.Goals as goal
 
@@ -28,20 +27,20 @@ with_quotients-requires-clause-few c =
       few_tests c.args.s.now c.requires.strided,
     )
 
-pub with_quotients-requires-clause-over : goal.with_quotients-requires-clause-over
-with_quotients-requires-clause-over c =
-    let made = root_made c.args.s.now c.requires.strided (record { vars = c.len.result; rows = c.push_copies.new.out })
+pub with_quotients-requires-clause-rows : goal.with_quotients-requires-clause-rows
+with_quotients-requires-clause-rows c =
+    root_small c.args.s.now c.requires.strided (record { vars = c.len.result; rows = c.push_copies.new.out })
     c.len.ensures
-    (c.in_ok-push_copies.ensures ∙ ap (λ xs. xs ++ c.as_slice.result.now) c.new-rows.ensures ∙ c.as_slice.ensures) in
-    subst (λ n. AreOver n c.push_copies.new.out) (sym c.len.ensures) made.over
+    (c.in_ok-push_copies.ensures ∙ ap (λ xs. xs ++ c.as_slice.result.now) c.new-rows.ensures ∙ c.as_slice.ensures)
 
 pub returns : goal.returns
 returns c =
     let s = c.args.s.now in
+    let root = root_context (read_of s) in
     let made = root_made s c.requires.strided (record { vars = c.len.result; rows = c.push_copies.new.out })
     c.len.ensures
     (c.in_ok-push_copies.ensures ∙ ap (λ xs. xs ++ c.as_slice.result.now) c.new-rows.ensures ∙ c.as_slice.ensures) in
     IfOk-weaker c.with_quotients.result _ _
-    (λ last h. subst (λ ds. IsMadeFrom (divided_context (root_context (read_of s)) ds) last) c.requires.tests
-    (h (root_context (read_of s)) made))
+    (λ last h. made_from (divided_context root (tests_of s)) last h.0
+    (subst (λ ds. IsMadeAs last (divided_context root ds)) c.requires.tests (h.1 root made)))
     c.with_quotients.ensures

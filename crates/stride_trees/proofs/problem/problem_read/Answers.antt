@@ -3,7 +3,7 @@ use Rattle.affine_core.specs.declared.form.Form.{Form}
 use Rattle.difference_graphs.proofs.Small.{negative_over}
 use Rattle.row_sums.specs.Parts.{IsWithin}
 use Rattle.row_sums.proofs.Within.{IsWithin-weaker}
-use Rattle.stride_trees.proofs.Systems.{moved_within}
+use Rattle.stride_trees.proofs.TestForms.{moved_within}
 use Rattle.stride_trees.proofs.problem.problem_read.Goals as goal
 
 pub negative-less-requires : goal.negative-less-requires

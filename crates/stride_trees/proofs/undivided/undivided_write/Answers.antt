@@ -1,8 +1,8 @@
-use Rattle.std.proofs.Common.{◌+◌, ◌*◌, ap, ◌∙◌, arith}
+use Rattle.std.proofs.Common.{◌+◌, ◌*◌, sym, subst, arith}
 use Rattle.std.proofs.lemmas.Result.{IfOk-weaker}
-use Rattle.stride_rows.proofs.Indivisible.{indivisible_proof}
-use Rattle.stride_trees.proofs.TestNodes.{fitting_of, subscript_room}
-use Rattle.stride_trees.proofs.NoWrites.{undivided_refuted}
+use Rattle.stride_trees.specs.Contexts.{IsNoIn}
+use Rattle.stride_trees.specs.Strides.{depth_of_read}
+use Rattle.stride_trees.proofs.TestNodes.{fitting_of}
 use Rattle.stride_trees.proofs.undivided.undivided_write.Goals as goal
 
 pub overflow_cast-root : goal.overflow_cast-root
@@ -10,91 +10,23 @@ overflow_cast-root c =
     let f = fitting_of c.args.s.now c.requires.strided in
     omega (arith, c.len-root.ensures, f.few_reader_rows)
 
-pub overflow_cast-rows : goal.overflow_cast-rows
-overflow_cast-rows c =
-    let f = fitting_of c.args.s.now c.requires.strided in
-    omega (arith, c.len-rows.ensures, f.few_rows)
-
-pub overflow_cast-subscripts : goal.overflow_cast-subscripts
-overflow_cast-subscripts c =
-    let f = fitting_of c.args.s.now c.requires.strided in
-    omega (arith, c.len-subscripts.ensures, f.few_subscripts)
-
-pub overflow_mul-row : goal.overflow_mul-row
-overflow_mul-row c =
-    let i = subscript_room c.args.s.now c.args.division.now c.requires.strided c.requires.test in
-    omega (arith, i)
-
-pub overflow_add-row : goal.overflow_add-row
-overflow_add-row c =
-    let f = fitting_of c.args.s.now c.requires.strided in
-    let i = subscript_room c.args.s.now c.args.division.now c.requires.strided c.requires.test in
-    omega (arith, c.len-rows.ensures, f.few_rows, i)
-
-pub overflow_add-row-2 : goal.overflow_add-row-2
-overflow_add-row-2 c =
-    let f = fitting_of c.args.s.now c.requires.strided in
-    let i = subscript_room c.args.s.now c.args.division.now c.requires.strided c.requires.test in
-    omega (arith, c.len-rows.ensures, f.few_rows, i, c.requires.here)
-
-pub overflow_mul-count : goal.overflow_mul-count
-overflow_mul-count c =
-    let f = fitting_of c.args.s.now c.requires.strided in
-    omega (arith, c.len-subscripts.ensures, f.few_subscripts)
-
-pub overflow_add-count : goal.overflow_add-count
-overflow_add-count c =
-    let f = fitting_of c.args.s.now c.requires.strided in
-    omega (arith, c.len-subscripts.ensures, f.few_subscripts, c.requires.more)
-
-pub overflow_add-count-2 : goal.overflow_add-count-2
-overflow_add-count-2 c =
-    let f = fitting_of c.args.s.now c.requires.strided in
-    omega (arith, c.len-rows.ensures, f.few_rows, c.len-subscripts.ensures, f.few_subscripts, c.requires.more)
-
-pub overflow_add-count-3 : goal.overflow_add-count-3
-overflow_add-count-3 c =
-    let f = fitting_of c.args.s.now c.requires.strided in
-    omega (arith, c.len-rows.ensures, f.few_rows, c.len-subscripts.ensures, f.few_subscripts, c.requires.more, c.requires.here)
-
-pub row_above-above-requires : goal.row_above-above-requires
-row_above-above-requires c =
-    let f = fitting_of c.args.s.now c.requires.strided in
-    let i = subscript_room c.args.s.now c.args.division.now c.requires.strided c.requires.test in
-    omega (arith, c.len-rows.ensures, f.few_rows, i, c.requires.here)
-
-pub row_below-below-requires : goal.row_below-below-requires
-row_below-below-requires c =
-    let f = fitting_of c.args.s.now c.requires.strided in
-    let i = subscript_room c.args.s.now c.args.division.now c.requires.strided c.requires.test in
-    omega (arith, c.len-rows.ensures, f.few_rows, i, c.requires.here)
-
 pub overflow_add-root : goal.overflow_add-root
 overflow_add-root c =
     let f = fitting_of c.args.s.now c.requires.strided in
     omega (arith, c.len-root.ensures, f.few_reader_rows, c.requires.place)
 
-pub indivisible-requires-clause-test : goal.indivisible-requires-clause-test
-indivisible-requires-clause-test c =
+pub undivided_behind-requires-clause-row : goal.undivided_behind-requires-clause-row
+undivided_behind-requires-clause-row c =
     let f = fitting_of c.args.s.now c.requires.strided in
     omega (arith, c.len-root.ensures, f.few_reader_rows, c.requires.place)
-
-pub indivisible-requires-clause-count : goal.indivisible-requires-clause-count
-indivisible-requires-clause-count c =
-    let f = fitting_of c.args.s.now c.requires.strided in
-    omega (arith, c.len-rows.ensures, f.few_rows, c.len-subscripts.ensures, f.few_subscripts, c.requires.more, c.requires.here)
 
 pub returns : goal.returns
 returns c =
     let d = c.args.division.now in
-    let here = c.args.here in
-    let row = here + (c.len-rows.result + 2 * d.subscript) in
-    let all = here + (c.len-rows.result + (2 * c.len-subscripts.result + c.args.more)) in
-    let above = c.row_above-above.result in
-    let below = c.row_below-below.result in
-    IfOk-weaker c.indivisible.result _ _
-    (λ proof is cx order at made count. undivided_refuted c.args.s.now d c.requires.strided c.requires.test c.args.place
-    here c.args.more cx at order made count proof row above below all (omega (arith, c.len-rows.ensures))
-    c.row_above-above.ensures c.row_below-below.ensures (omega (arith, c.len-rows.ensures, c.len-subscripts.ensures))
-    (is ∙ ap (λ root. indivisible_proof d.divisor (root + 2 * c.args.place) above below all) c.len-root.ensures))
-    c.indivisible.ensures
+    let quotient = depth_of_read c.args.s.now + c.args.place in
+    IfOk-weaker c.undivided_behind.result _ _
+    (λ proof refutes cx order at made count.
+    (refutes cx order quotient
+    (subst (λ root. IsNoIn d (root + 2 * c.args.place) quotient c.args.here cx) (sym c.len-root.ensures)
+    (record { small = at.small; first = at.first; second = at.second })) (omega (arith, at.inside)) made count).0)
+    c.undivided_behind.ensures

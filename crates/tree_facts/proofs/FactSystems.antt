@@ -1,12 +1,11 @@
 -- Systems whose context has facts behind its own rows, and the same without them.
 --
--- A leaf's systems are rows behind those of the context, over the context's variables or more. The facts' rows, widened,
--- are what the Cuts add to the context's rows, widened; so each proof becomes one without the facts.
+-- A leaf's system is rows behind those of the context, over the context's variables or more. The facts' rows, widened,
+-- are what the Cuts add to the context's rows, widened; so its proof becomes one without the facts.
 use Rattle.std.proofs.Common.{◌≡◌, ◌+◌, ◌≤◌, ℕ, suc, List, [], ◌∷◌, ◌++◌, length, map}
 use Rattle.std.proofs.Common.{refl, sym, ap, ◌∙◌, subst, arith, append_assoc, length-append}
-use Rattle.std.specs.Prelude.{Some, All}
+use Rattle.std.specs.Prelude.{Some}
 use Rattle.std.specs.Option.{option_and_then}
-use Rattle.std.proofs.lemmas.List.Elements.{All-head, All-tail}
 use Rattle.std.proofs.lemmas.Option.{option_and_then_some, same_Some}
 use Rattle.affine_core.specs.declared.form.Form.{Form}
 use Rattle.affine_core.specs.Affine.{widened_form}
@@ -15,15 +14,14 @@ use Rattle.difference_graphs.proofs.RowBounds.{forms_append}
 use Rattle.int_polyhedra.specs.declared.system.Proof.{Proof}
 use Rattle.int_polyhedra.specs.Rules.{Refutes}
 use Rattle.row_sums.proofs.RowParts.{made_widens}
-use Rattle.source_tree.specs.Checked.{AreRefuted, IsRefuted}
-use Rattle.source_tree.specs.Rows.{RowExpr, RowSystem, Take, row_form, row_forms}
+use Rattle.source_tree.specs.Checked.{IsRefuted}
+use Rattle.source_tree.specs.Rows.{RowExpr, Take, row_form, row_forms}
 use Rattle.source_tree.specs.Systems.{Context}
 use Rattle.stride_rows.specs.declared.cuts.Cut.{Cut}
-use Rattle.tree_facts.specs.Cuts.{proof_by_cuts, proofs_by_cuts}
+use Rattle.tree_facts.specs.Cuts.{proof_by_cuts}
 use Rattle.tree_facts.specs.Facts.{fact_rows, AddFacts, HoldsWithoutFacts}
 use Rattle.tree_facts.proofs.ByCuts.{refutes_by_cuts}
 use Rattle.tree_facts.proofs.Wider.{add_wider}
-use Rattle.tree_trim.proofs.Systems.{behind}
 use Rattle.tree_trim.proofs.Trimming.{rows_made}
 
 -- rows one behind the other, as they are made
@@ -88,33 +86,18 @@ system_away c cuts facts v more p h le r =
           (subst (λ n. Refutes v (front ++ after) (proof_by_cuts (length front) n cuts p)) counts refuted);
     }
 
-module _ (c : Context) (cuts : List Cut) (facts : List Form) (h : AddFacts c cuts facts) (rest : List RowExpr) where
-  -- how many rows a system has behind those of the context
-  abbrev pub count_behind : RowSystem → ℕ
-  count_behind s = length ((c.rows ++ rest) ++ s.rows)
-
-  one_away : (s : RowSystem) (p : Proof) → c.vars ≤ s.vars
-      → IsRefuted (behind (c.rows ++ fact_rows facts rest) s) p
-      → IsRefuted (behind (c.rows ++ rest) s) (proof_by_cuts (length c.rows) (count_behind s) cuts p)
-  one_away s p le r =
-      let more : List RowExpr = rest ++ s.rows in
-      let apart : (c.rows ++ fact_rows facts rest) ++ s.rows ≡ c.rows ++ fact_rows facts more =
-      append_assoc c.rows (fact_rows facts rest) s.rows
-      ∙ ap (λ rows. c.rows ++ rows) (append_assoc (map Take facts) rest s.rows) in
-      let own : c.rows ++ more ≡ (c.rows ++ rest) ++ s.rows = sym (append_assoc c.rows rest s.rows) in
-      subst (λ rows. IsRefuted (record { vars = s.vars; rows = rows }) (proof_by_cuts (length c.rows) (length rows) cuts p))
-      own
-      (system_away c cuts facts s.vars more p h le
-      (subst (λ rows. IsRefuted (record { vars = s.vars; rows = rows }) p) apart r))
-
-  pub facts_away : (systems : List RowSystem) (proofs : List Proof) → All (λ s. c.vars ≤ s.vars) systems
-      → AreRefuted (map (behind (c.rows ++ fact_rows facts rest)) systems) proofs
-      → AreRefuted (map (behind (c.rows ++ rest)) systems)
-      (proofs_by_cuts (length c.rows) (map count_behind systems) cuts proofs)
-  facts_away [] [] wide r = tt
-  facts_away [] (p ∷ proofs) wide r = absurd r
-  facts_away (s ∷ systems) [] wide r = absurd r
-  facts_away (s ∷ systems) (p ∷ proofs) wide r = (
-    one_away s p (All-head (λ (s : RowSystem). c.vars ≤ s.vars) s systems wide) r.0,
-    facts_away systems proofs (All-tail (λ (s : RowSystem). c.vars ≤ s.vars) s systems wide) r.1,
-  )
+-- rows behind the facts, and rows of the system behind those
+pub one_away : (c : Context) (cuts : List Cut) (facts : List Form) (rest more : List RowExpr) (vars : ℕ) (p : Proof)
+    → AddFacts c cuts facts → c.vars ≤ vars
+    → IsRefuted (record { vars = vars; rows = (c.rows ++ fact_rows facts rest) ++ more }) p
+    → IsRefuted (record { vars = vars; rows = (c.rows ++ rest) ++ more })
+    (proof_by_cuts (length c.rows) (length ((c.rows ++ rest) ++ more)) cuts p)
+one_away c cuts facts rest more vars p h le r =
+    let behind : List RowExpr = rest ++ more in
+    let apart : (c.rows ++ fact_rows facts rest) ++ more ≡ c.rows ++ fact_rows facts behind =
+    append_assoc c.rows (fact_rows facts rest) more
+    ∙ ap (λ rows. c.rows ++ rows) (append_assoc (map Take facts) rest more) in
+    let own : c.rows ++ behind ≡ (c.rows ++ rest) ++ more = sym (append_assoc c.rows rest more) in
+    subst (λ rows. IsRefuted (record { vars = vars; rows = rows }) (proof_by_cuts (length c.rows) (length rows) cuts p)) own
+    (system_away c cuts facts vars behind p h le
+    (subst (λ rows. IsRefuted (record { vars = vars; rows = rows }) p) apart r))

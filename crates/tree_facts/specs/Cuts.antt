@@ -17,10 +17,3 @@ proof_by_cut k n cut p =
 abbrev pub proof_by_cuts : ℕ → ℕ → List Cut → Proof → Proof
 proof_by_cuts k n [] p = p
 proof_by_cuts k n (cut ∷ cuts) p = proof_by_cut k n cut (proof_by_cuts (k + 1) (n + 1) cuts p)
-
--- the same of proofs of systems with these numbers of other rows
-abbrev pub proofs_by_cuts : ℕ → List ℕ → List Cut → List Proof → List Proof
-proofs_by_cuts k [] cuts ps = []
-proofs_by_cuts k (n ∷ counts) cuts [] = []
-proofs_by_cuts k (n ∷ counts) cuts (p ∷ ps) =
-    proof_by_cuts k n cuts p ∷ proofs_by_cuts k counts cuts ps

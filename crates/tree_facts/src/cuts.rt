@@ -1,5 +1,5 @@
-ghost use Rattle.std.specs.Prelude.{◌≡◌, ◌<◌, ◌+◌, ◌^◌, [], ◌∷◌, ◌++◌, length, All, IfOk, OnOk};
-ghost use Rattle.tree_facts.specs.Cuts.{proof_by_cut, proof_by_cuts, proofs_by_cuts};
+ghost use Rattle.std.specs.Prelude.{◌≡◌, ◌<◌, ◌+◌, ◌^◌, [], ◌∷◌, ◌++◌, length, map, IfOk, OnOk};
+ghost use Rattle.tree_facts.specs.Cuts.{proof_by_cut, proof_by_cuts};
 
 use crate::behind::proof_behind;
 use int_polyhedra::{Proof, by_cut};
@@ -67,22 +67,20 @@ fn push_by_cuts(
     out.push(own)
 }
 
-/// The same of proofs of systems that have these numbers of rows without the facts.
+/// The same of proofs of systems that have so many rows each without the facts.
 pub fn proofs_by_cuts(
     alloc: Global,
     cuts: &[Cut],
     row: u32,
-    counts: &[u32],
+    rows: u32,
     proofs: Items<Proof>,
 ) -> Result<Items<Proof>, AllocError>
-    requires few { All (λ rows. rows + length cuts.now < 2 ^ 32) counts.now }
+    requires few { rows + length cuts.now < 2 ^ 32 }
     requires inside { row + length cuts.now < 2 ^ 32 }
-    requires count { length proofs ≡ length counts.now }
-    ensures { IfOk result (λ own. own ≡ proofs_by_cuts row counts.now cuts.now proofs) }
+    ensures { IfOk result (λ own. own ≡ map (proof_by_cuts row rows cuts.now) proofs) }
 {
     let mut own = Items::new(alloc);
     for proof in proofs.into_vec() {
-        let rows = counts[own.len()];
         push_by_cuts(&mut own, cuts, row, rows, proof)?;
     }
     Ok(own)

@@ -1,10 +1,9 @@
-use Rattle.std.proofs.Common.{◌≡◌, ◌+◌, ◌++◌, drop, length}
-use Rattle.tree_facts.specs.Cuts.{proofs_by_cuts}
+use Rattle.std.proofs.Common.{◌≡◌, ◌++◌, map}
+use Rattle.tree_facts.specs.Cuts.{proof_by_cuts}
 use Rattle.tree_facts.proofs.cuts.proofs_by_cuts.Given as goal
 
--- the proofs so far, and those of the systems that are left
+-- the proofs so far, and those that are left
 abbrev pub invariant-loop-proof : goal.invariant-loop-proof
 invariant-loop-proof l =
-    (l.own ++ proofs_by_cuts l.row (drop (length l.own) l.counts) l.cuts l.proof-iterator.rest.items
-    ≡ proofs_by_cuts l.row l.counts l.cuts l.fn.proofs)
-    × (length l.own + length l.proof-iterator.rest.items ≡ length l.counts)
+    l.own ++ map (proof_by_cuts l.row l.rows l.cuts) l.proof-iterator.rest.items
+    ≡ map (proof_by_cuts l.row l.rows l.cuts) l.fn.proofs

@@ -8,7 +8,8 @@ use Rattle.std.specs.Prelude.{Some, None, slice_get}
 use Rattle.std.proofs.lemmas.List.{append-nil}
 use Rattle.std.proofs.lemmas.Option.{same_Some}
 use Rattle.affine_core.specs.Affine.{widened_form}
-use Rattle.last_writer.specs.Answers.{answered_context, below_answer}
+use Rattle.last_writer.specs.Answers.{answered_context}
+use Rattle.stride_trees.specs.Answers.{below_answer}
 use Rattle.plain_data.proofs.Lists.{slice_get-append_some, slice_get-append_right}
 use Rattle.source_tree.specs.Rows.{RowExpr}
 use Rattle.source_tree.specs.Systems.{Context, divided_rows, one_more, undivided_rows}

@@ -25,12 +25,13 @@ use Rattle.candidate_order.specs.declared.candidates.Problem.{Problem}
 use Rattle.candidate_order.specs.declared.candidates.Read.{Read}
 use Rattle.int_polyhedra.specs.declared.system.System.{System}
 use Rattle.int_polyhedra.specs.Systems.{AreOver}
-use Rattle.last_writer.specs.Answers.{answered_context, below_answer, HasSmallRows}
+use Rattle.last_writer.specs.Answers.{answered_context}
+use Rattle.stride_trees.specs.Answers.{below_answer, HasSmallRows, IsSmallTest}
 use Rattle.last_writer.specs.Leaves.{context_of, fact_context, is_told, pairs_of, told_pair, told_pairs, vars_of}
 use Rattle.last_writer.specs.Leaves.{HasFacts, IsAnswered, IsBelow}
 use Rattle.last_writer.specs.Told.{IsToldOf}
 use Rattle.last_writer.specs.declared.source.Told.{Told}
-use Rattle.last_writer.specs.Writers.{is_never, stands_before, AreWriters, IsPlaceOf, IsReadOf, IsSmallTest, IsTestAt}
+use Rattle.last_writer.specs.Writers.{is_never, stands_before, AreWriters, IsPlaceOf, IsReadOf, IsTestAt}
 use Rattle.last_writer.specs.Writers.{IsWriterOf}
 use Rattle.last_writer.specs.declared.leaves.Answered.{Answered}
 use Rattle.last_writer.specs.declared.writers.Writer.{Writer}

@@ -2,25 +2,26 @@
 --
 -- Where its tests all say yes its context has them, so its systems are converted; else one of them says no there. The
 -- order rows of its levels, and those of a place before it, are as many as were counted, and small.
-use Rattle.std.proofs.Common.{◌≡◌, ◌+◌, ◌*◌, ◌≤◌, ◌<◌, ◌^◌, ℕ, zero, suc, List, [], ◌∷◌, ◌++◌, length, map, Bool, true, false}
+use Rattle.std.proofs.Common.{◌≡◌, ◌==◌, ◌+◌, ◌*◌, ◌≤◌, ◌<◌, ◌^◌, ℕ, zero, suc, List, [], ◌∷◌, ◌++◌, length, map, Bool, true, false}
 use Rattle.std.proofs.Common.{◌&&◌, cond, refl, sym, ap, ◌∙◌, subst, arith}
 use Rattle.std.specs.Prelude.{Option, Some, None, All, IfSome, nat_lt, slice_get}
 use Rattle.std.specs.List.{AllZip, flat_map, list_all}
-use Rattle.std.proofs.lemmas.List.{length-map}
-use Rattle.std.proofs.lemmas.List.Elements.{All-cons, All-head, All-nil, All-tail}
+use Rattle.std.proofs.lemmas.List.{length-map, map-append}
+use Rattle.std.proofs.lemmas.List.Elements.{All-append, All-cons, All-head, All-nil, All-tail}
 use Rattle.std.proofs.lemmas.Option.{same_Some, slice_get_within}
+use Rattle.std.proofs.lemmas.Simd.{map-map}
 use Rattle.affine_core.specs.declared.form.Form.{Form}
 use Rattle.candidate_order.specs.Candidates.{levels_before}
 use Rattle.candidate_join.proofs.LevelCounts.{few_before}
-use Rattle.last_writer.specs.Leaves.{answer_at, context_of, counts_behind, is_told, order_counts, own_systems}
-use Rattle.last_writer.specs.Leaves.{told_systems, AddsProofs, AreOrderRows, CanBeConverted, IsAnswered, IsBelow, IsFurther}
-use Rattle.last_writer.specs.Leaves.{IsRefusal, IsRefusalAmong, IsRefusalBy, IsRefusedContext}
+use Rattle.last_writer.specs.Leaves.{after_counts, all_orders, answer_at, context_of, counts_behind, fact_context, is_told, order_counts}
+use Rattle.last_writer.specs.Leaves.{own_context, own_order, own_systems, point_vars, told_order, told_systems, AddsOrders}
+use Rattle.last_writer.specs.Leaves.{AddsProofs, HaveOrderRows, IsAnswered, IsAtLeaf, IsBelow, IsFurther, IsRefusal}
+use Rattle.last_writer.specs.Leaves.{IsRefusalAmong, IsRefusalBy, IsRefusedContext}
 use Rattle.last_writer.specs.Writers.{is_never, no_place, IsPlaceBy, IsPlaceOf, IsTestAt, IsWriterOf}
 use Rattle.last_writer.specs.declared.leaves.Answered.{Answered}
 use Rattle.last_writer.specs.declared.leaves.Refusal.{Refusal}
 use Rattle.last_writer.specs.declared.writers.Writer.{Writer}
 use Rattle.int_polyhedra.specs.declared.system.Proof.{Proof}
-use Rattle.last_writer.proofs.ProofSteps.{adds_own}
 use Rattle.last_writer.proofs.WriterTests.{no_test_in, tests_asked, tests_in, told_asked, HasAnswers, IsNoTestIn}
 use Rattle.last_writer.proofs.Below.{answer_row, vars_are}
 use Rattle.last_writer.proofs.LevelCounts.{counts_few, orders_made, order_lengths, AreNear}
@@ -31,12 +32,12 @@ use Rattle.plain_data.proofs.Lists.{All-slice_get}
 use Rattle.row_sums.specs.Parts.{IsWithin}
 use Rattle.row_sums.proofs.Within.{IsWithin-weaker}
 use Rattle.sanlp.proofs.Precedence.{common_first, common_second}
-use Rattle.source_tree.specs.Checked.{AreRefuted, HaveVariables}
+use Rattle.source_tree.specs.Checked.{HaveVariables}
 use Rattle.source_tree.specs.Places.{before_rows, variables}
 use Rattle.source_tree.specs.Rows.{RowExpr, RowSystem, Take}
 use Rattle.source_tree.specs.Systems.{Context, Occurrence, reader_place, root_context, writer_place}
 use Rattle.source_tree.specs.References.{occurrence_of}
-use Rattle.stride_trees.specs.Contexts.{own_system, told_system, AreMadeSmall, IsTestedContext, IsUndividedContext}
+use Rattle.stride_trees.specs.Contexts.{told_system, AreMadeSmall, IsTestedContext, IsUndividedContext}
 use Rattle.stride_trees.specs.Divisions.{never_divides}
 use Rattle.stride_trees.specs.Problem.{told_write}
 use Rattle.stride_trees.specs.Strides.{depth_of_read, depth_of_write, read_of, root_of, tests_of, write_of, IsTestOf}
@@ -143,15 +144,12 @@ places_inside tests (d ∷ ds) (place ∷ places) few h =
     All-cons (λ place. place < 6) place places
     (omega (arith, slice_get_within tests place h.0.test h.0.is, few)) (places_inside tests ds places few h.1)
 
-pub can_be_converted : (w : Answered) (here : ℕ) (x : Writer) → IsAnswered w → here ≤ 2 ^ 30
-    → IsWriterOf w.nest.now (occurrence_of w.read) w.tests.now x → is_told w.answers.now x ≡ true → CanBeConverted x here
-can_be_converted w here x h few of says = record {
-  strided = of.strided;
-  places = places_inside w.tests.now x.divisions x.places h.few
-      (tests_asked w.tests.now x.divisions x.places
-      (told_asked w.answers.now x (omega (arith, h.answers, h.few)) says) of.places);
-  few = few;
-}
+pub told_places : (w : Answered) (x : Writer) → IsAnswered w
+    → IsWriterOf w.nest.now (occurrence_of w.read) w.tests.now x → is_told w.answers.now x ≡ true
+    → All (λ place. place < 6) x.places
+told_places w x h of says =
+    places_inside w.tests.now x.divisions x.places h.few
+    (tests_asked w.tests.now x.divisions x.places (told_asked w.answers.now x (omega (arith, h.answers, h.few)) says) of.places)
 
 pub is_refusal : (w : Answered) (x : Writer) (refusal : Refusal) → IsAnswered w
     → IsWriterOf w.nest.now (occurrence_of w.read) w.tests.now x
@@ -191,57 +189,69 @@ place_near vars more (f ∷ place) over within = (
       (All-tail (IsWithin (2 ^ 48)) f place within),
 )
 
+counted_rows : (vars : ℕ) (counts : List ℕ) (orders : List (List RowExpr)) → map length orders ≡ counts
+    → All (AreMadeSmall vars) orders → HaveOrderRows vars counts orders
+counted_rows vars counts orders e made = subst (λ ns. HaveOrderRows vars ns orders) e (go orders made) where
+  go : (orders : List (List RowExpr)) → All (AreMadeSmall vars) orders → HaveOrderRows vars (map length orders) orders
+  go [] made = tt
+  go (rows ∷ orders) made =
+      ((refl, All-head (AreMadeSmall vars) rows orders made), go orders (All-tail (AreMadeSmall vars) rows orders made))
+
 pub few_counts : (u w : Occurrence) → length u.statement.loops ≤ 6 → All (λ k. k ≤ 32) (order_counts u w)
 few_counts u w few = counts_few (common_of u w) (levels_before u w) 0 (omega (arith, few_before u w few))
 
+pub few_after : (r u : Occurrence) → length r.statement.loops ≤ 6 → All (λ k. k ≤ 32) (after_counts r u)
+few_after r u few =
+    All-append (λ k. k ≤ 32) (order_counts r u) (cond (u.number == r.number) ((2 * length r.statement.loops) ∷ []) [])
+    (few_counts r u few) (go (u.number == r.number)) where
+      go : (b : Bool) → All (λ k. k ≤ 32) (cond b ((2 * length r.statement.loops) ∷ []) [])
+      go true = All-cons (λ k. k ≤ 32) (2 * length r.statement.loops) [] (omega (arith, few)) (All-nil _)
+      go false = All-nil _
+
 -- the levels of a writer before the read
-pub level_rows : (s : Strides) (c : Context) → depth_of_read s ≤ c.vars
-    → AreOrderRows s c (order_counts (write_of s) (read_of s))
+level_rows : (s : Strides) (c : Context) → depth_of_read s ≤ c.vars
+    → HaveOrderRows (c.vars + depth_of_write s) (order_counts (write_of s) (read_of s))
     (before_rows (write_of s).number (write_of s).statement (writer_place c (write_of s)) (read_of s).number
     (read_of s).statement (reader_place (read_of s)))
 level_rows s c le =
     let u : Occurrence = write_of s in
     let r : Occurrence = read_of s in
-    record {
-      counted = order_lengths (common_of u r) (nat_lt u.number r.number) (writer_place c u) (reader_place r)
-          (omega (
-            arith,
-            length_variables c.vars (length u.statement.loops),
-            common_first u.statement.loops r.statement.loops,
-          ))
-          (omega (arith, length_variables 0 (length r.statement.loops), common_second u.statement.loops r.statement.loops));
-      made = orders_made (c.vars + depth_of_write s) (common_of u r) (nat_lt u.number r.number) (writer_place c u)
-          (reader_place r) (variables_near (c.vars + depth_of_write s) c.vars (length u.statement.loops) (omega arith))
-          (variables_near (c.vars + depth_of_write s) 0 (length r.statement.loops) (omega (arith, le)));
-    }
+    counted_rows (c.vars + depth_of_write s) (order_counts u r)
+    (before_rows u.number u.statement (writer_place c u) r.number r.statement (reader_place r))
+    (order_lengths (common_of u r) (nat_lt u.number r.number) (writer_place c u) (reader_place r)
+    (omega (
+      arith,
+      length_variables c.vars (length u.statement.loops),
+      common_first u.statement.loops r.statement.loops,
+    ))
+    (omega (arith, length_variables 0 (length r.statement.loops), common_second u.statement.loops r.statement.loops)))
+    (orders_made (c.vars + depth_of_write s) (common_of u r) (nat_lt u.number r.number) (writer_place c u) (reader_place r)
+    (variables_near (c.vars + depth_of_write s) c.vars (length u.statement.loops) (omega arith))
+    (variables_near (c.vars + depth_of_write s) 0 (length r.statement.loops) (omega (arith, le))))
 
 -- what stands behind them
 pub further_rows : (s : Strides) (c : Context) (behind : Option Reference)
     (further : Occurrence → List (List RowExpr)) → IsFurther behind c further
-    → AreOrderRows s c (counts_behind behind (write_of s)) (further (write_of s))
+    → HaveOrderRows (c.vars + depth_of_write s) (counts_behind behind (write_of s)) (further (write_of s))
 further_rows s c None further h =
-    subst (AreOrderRows s c (0 ∷ [])) (sym (h (write_of s)))
-    (record {
-      counted = refl;
-      made = All-cons (AreMadeSmall (c.vars + depth_of_write s)) [] []
-          (record { forms = []; are_made = refl; within = All-nil _ }) (All-nil _);
-    })
+    subst (HaveOrderRows (c.vars + depth_of_write s) (0 ∷ [])) (sym (h (write_of s)))
+    ((refl, record { forms = []; are_made = refl; within = All-nil _ }), tt)
 further_rows s c (Some of) further (place, in_context, is) =
     let u : Occurrence = write_of s in
     let v : Occurrence = occurrence_of of in
-    subst (AreOrderRows s c (order_counts v u)) (sym (is u))
-    (record {
-      counted = order_lengths (common_of v u) (nat_lt v.number u.number) place (writer_place c u)
-          (omega (arith, in_context.deep, common_first v.statement.loops u.statement.loops))
-          (omega (
-            arith,
-            length_variables c.vars (length u.statement.loops),
-            common_second v.statement.loops u.statement.loops,
-          ));
-      made = orders_made (c.vars + depth_of_write s) (common_of v u) (nat_lt v.number u.number) place (writer_place c u)
-          (place_near c.vars (depth_of_write s) place in_context.over in_context.within)
-          (variables_near (c.vars + depth_of_write s) c.vars (length u.statement.loops) (omega arith));
-    })
+    subst (HaveOrderRows (c.vars + depth_of_write s) (order_counts v u)) (sym (is u))
+    (counted_rows (c.vars + depth_of_write s) (order_counts v u)
+    (before_rows v.number v.statement place u.number u.statement (writer_place c u))
+    (order_lengths (common_of v u) (nat_lt v.number u.number) place (writer_place c u)
+    (omega (arith, in_context.deep, common_first v.statement.loops u.statement.loops))
+    (omega (
+      arith,
+      length_variables c.vars (length u.statement.loops),
+      common_second v.statement.loops u.statement.loops,
+    )))
+    (orders_made (c.vars + depth_of_write s) (common_of v u) (nat_lt v.number u.number) place (writer_place c u)
+    (place_near c.vars (depth_of_write s) place in_context.over in_context.within)
+    (variables_near (c.vars + depth_of_write s) c.vars (length u.statement.loops) (omega arith))))
 
 -- a write over quotients has the same rows behind it
 pub same_further : (behind : Option Reference) (c : Context) (further : Occurrence → List (List RowExpr))
@@ -267,26 +277,64 @@ refused answers x refusal h = one_no x.places h.number refusal.place h.place h.n
 
 -- Systems of one writer
 
+each_order : (f : List RowExpr → List RowSystem) (g : List RowExpr → RowSystem)
+    → ((rows : List RowExpr) → f rows ≡ g rows ∷ []) → (orders : List (List RowExpr)) → flat_map f orders ≡ map g orders
+each_order f g is [] = refl
+each_order f g is (rows ∷ orders) =
+    ap (λ systems. systems ++ flat_map f orders) (is rows) ∙ ap (λ systems. g rows ∷ systems) (each_order f g is orders)
+
+no_order : (f : List RowExpr → List RowSystem) → ((rows : List RowExpr) → f rows ≡ []) → (orders : List (List RowExpr))
+    → flat_map f orders ≡ []
+no_order f is [] = refl
+no_order f is (rows ∷ orders) = ap (λ systems. systems ++ flat_map f orders) (is rows) ∙ no_order f is orders
+
+level_by_level : (g : List RowExpr → RowSystem) (behind at : List (List RowExpr))
+    → map g (all_orders behind at) ≡ flat_map (λ level. map (λ rows. g (level ++ rows)) behind) at
+level_by_level g behind [] = refl
+level_by_level g behind (level ∷ at) =
+    map-append g (map (λ rows. level ++ rows) behind) (all_orders behind at)
+    ∙ ap (λ systems. systems ++ map g (all_orders behind at)) (map-map g (λ rows. level ++ rows) behind)
+    ∙ ap (λ systems. map (λ rows. g (level ++ rows)) behind ++ systems) (level_by_level g behind at)
+
 -- the order rows of its levels before the read
-abbrev levels_of : Writer → Context → List (List RowExpr)
+abbrev pub levels_of : Writer → Context → List (List RowExpr)
 levels_of x c = before_rows (write_of x.strides).number (write_of x.strides).statement
     (writer_place c (write_of x.strides)) (read_of x.strides).number (read_of x.strides).statement
     (reader_place (read_of x.strides))
 
-module _ (w : Answered) (c : Context) (behind : Option Reference) (further : Occurrence → List (List RowExpr))
-    (x : Writer) (h : IsFurther behind c further) where
+module _ (w : Answered) (rest : List RowExpr) (behind : Option Reference) (further : Occurrence → List (List RowExpr))
+    (x : Writer) (h : IsFurther behind (fact_context w rest) further) where
+  abbrev c : Context
+  c = fact_context w rest
+
+  abbrev u : Occurrence
+  u = write_of x.strides
+
+  abbrev orders : List (List RowExpr)
+  orders = all_orders (further u) (levels_of x c)
+
   abbrev of_told : List (List RowExpr) → List RowSystem
-  of_told rows = flat_map (λ (p : List RowExpr). map (λ (q : List RowExpr). told_system x.strides x.places c (p ++ q)) rows)
+  of_told others =
+      flat_map (λ (level : List RowExpr). map (λ (rows : List RowExpr). told_system x.strides x.places c (level ++ rows)) others)
       (levels_of x c)
 
-  pub told_is : is_told w.answers.now x ≡ true
-      → told_systems w.answers.now c further x ≡ of_told (further (write_of x.strides))
-  told_is says =
-      ap (λ (b : Bool). cond b (of_told (further (told_write (write_of x.strides)))) []) says
-      ∙ ap of_told (same_further behind c further (write_of x.strides) h)
+  told_are : (b : Bool) → cond b (of_told (further (told_write u))) []
+      ≡ flat_map (λ (rows : List RowExpr). cond b (told_system x.strides x.places c rows ∷ []) []) orders
+  told_are true =
+      ap of_told (same_further behind c further u h)
+      ∙ sym (level_by_level (told_system x.strides x.places c) (further u) (levels_of x c))
+      ∙ sym (each_order (λ (rows : List RowExpr). told_system x.strides x.places c rows ∷ [])
+      (told_system x.strides x.places c) (λ rows. refl) orders)
+  told_are false = sym (no_order (λ (rows : List RowExpr). []) (λ rows. refl) orders)
 
-  pub none_is : is_told w.answers.now x ≡ false → told_systems w.answers.now c further x ≡ []
-  none_is denies = ap (λ (b : Bool). cond b (of_told (further (told_write (write_of x.strides)))) []) denies
+  -- what is added for all orders is added for the writer
+  pub writer_added : (told left old new : List Proof) → AddsOrders w rest x orders told left old new
+      → AddsProofs (told_systems w.answers.now c further x) (own_systems (own_context w rest) further x) told left old new
+  writer_added told left old new added =
+      subst (λ from. AddsProofs from (own_systems (own_context w rest) further x) told left old new)
+      (sym (told_are (is_told w.answers.now x)))
+      (subst (λ to. AddsProofs (flat_map (told_order w rest x) orders) to told left old new)
+      (level_by_level (own_order w rest x) (further u) (levels_of x c)) added)
 
 -- how many order rows there are
 pub few_behind : (behind : Option Reference) (u : Occurrence)
@@ -294,42 +342,12 @@ pub few_behind : (behind : Option Reference) (u : Occurrence)
 few_behind None u few = All-cons (λ k. k ≤ 32) 0 [] (omega arith) (All-nil _)
 few_behind (Some of) u few = few_counts (occurrence_of of) u few
 
--- what is added for one writer
-module _ (w : Answered) (here : ℕ) (behind : Option Reference) (x : Writer) (told rest old new : List Proof)
-    (of : IsWriterOf w.nest.now (occurrence_of w.read) w.tests.now x) where
-  levels_are : (c : Context) → IsBelow w here c
-      → AreOrderRows x.strides c (order_counts (write_of x.strides) (occurrence_of w.read)) (levels_of x c)
-  levels_are c below =
-      subst (λ r. AreOrderRows x.strides c (order_counts (write_of x.strides) r) (levels_of x c)) of.read
-      (level_rows x.strides c (reader_inside w here c x below of))
-
-  pub adds_converted : IsAnswered w → is_told w.answers.now x ≡ true
-      → ((c : Context) (at rows : List (List RowExpr)) → IsTestedContext x.strides x.places here c
-      → AreOrderRows x.strides c (order_counts (write_of x.strides) (occurrence_of w.read)) at
-      → AreOrderRows x.strides c (counts_behind behind (write_of x.strides)) rows
-      → AddsProofs (flat_map (λ p. map (λ q. told_system x.strides x.places c (p ++ q)) rows) at)
-      (flat_map (λ p. map (λ q. own_system x.strides c (p ++ q)) rows) at) told rest old new)
-      → (c : Context) (further : Occurrence → List (List RowExpr)) → IsBelow w here c → IsFurther behind c further
-      → AddsProofs (told_systems w.answers.now c further x) (own_systems c further x) told rest old new
-  adds_converted answered says h c further below is_further =
-      subst (λ from. AddsProofs from (own_systems c further x) told rest old new)
-      (sym (told_is w c behind further x is_further says))
-      (h c (levels_of x c) (further (write_of x.strides)) (tested w here c x below of answered says)
-      (levels_are c below) (further_rows x.strides c behind further is_further))
-
-  pub adds_refused : (refusal : Refusal) → IsRefusalAmong w.answers.now x.divisions x.places refusal → rest ≡ told
-      → ((c : Context) (at rows : List (List RowExpr))
-      → IsRefusedContext x.strides refusal here c
-      → AreOrderRows x.strides c (order_counts (write_of x.strides) (occurrence_of w.read)) at
-      → AreOrderRows x.strides c (counts_behind behind (write_of x.strides)) rows
-      → (systems : List RowSystem) → AreRefuted systems old
-      → AreRefuted (systems ++ flat_map (λ p. map (λ q. own_system x.strides c (p ++ q)) rows) at) new)
-      → (c : Context) (further : Occurrence → List (List RowExpr)) → IsBelow w here c → IsFurther behind c further
-      → AddsProofs (told_systems w.answers.now c further x) (own_systems c further x) told rest old new
-  adds_refused refusal among e h c further below is_further =
-      subst (λ from. AddsProofs from (own_systems c further x) told rest old new)
-      (sym (none_is w c behind further x is_further (refused w.answers.now x refusal among)))
-      (subst (λ rest. AddsProofs [] (own_systems c further x) told rest old new) (sym e)
-      (adds_own (own_systems c further x) told old new
-      (h c (levels_of x c) (further (write_of x.strides)) (refused_here w here c x below of refusal among)
-      (levels_are c below) (further_rows x.strides c behind further is_further))))
+pub writer_levels : (w : Answered) (here : ℕ) (rest : List RowExpr) (x : Writer) → IsAtLeaf w here rest
+    → IsWriterOf w.nest.now (occurrence_of w.read) w.tests.now x
+    → HaveOrderRows (point_vars w x) (order_counts (write_of x.strides) (occurrence_of w.read))
+    (levels_of x (fact_context w rest))
+writer_levels w here rest x at of =
+    subst (λ r. HaveOrderRows (point_vars w x) (order_counts (write_of x.strides) r) (levels_of x (fact_context w rest)))
+    of.read
+    (level_rows x.strides (fact_context w rest)
+    (reader_inside w (here + length w.cuts.now) (fact_context w rest) x at of))

@@ -1,5 +1,4 @@
 pub mod ProofSteps
-pub mod AnswerContexts
 pub mod WriterTests
 pub mod RootContexts
 pub mod Below
@@ -16,5 +15,4 @@ pub mod LeafConversion
 pub mod OrderSteps
 pub mod QuotientWrites
 pub mod Whole
-pub mod RowCounts
 pub mod FactLeaves

@@ -1,184 +1,174 @@
 -- One order more, and one level more.
 --
--- The numbers of rows tell how many orders there are, so where no number is left there is no order, and a number is
--- that of the first of them. What is added for it comes before what is added for the others.
-use Rattle.std.proofs.Common.{◌≡◌, ◌+◌, ◌^◌, ℕ, List, [], ◌∷◌, ◌++◌, length, map, refl, sym, ap, ◌∙◌, subst, arith}
+-- For each number of rows there is one order, so where no number is left there is none, and what is added for the first
+-- comes before what is added for the others. An order of a writer whose tests all say yes takes the first of the proofs
+-- that are told; that of one of whose tests one says no takes none. The orders of a level are those behind it.
+use Rattle.std.proofs.Common.{◌≡◌, ◌+◌, ◌^◌, ℕ, Bool, true, false, cond, List, [], ◌∷◌, ◌++◌, length, map, sym, subst, arith}
+use Rattle.std.proofs.Common.{length-append}
 use Rattle.std.specs.List.{flat_map}
-use Rattle.std.proofs.lemmas.List.{append-nil, append_assoc}
-use Rattle.std.proofs.lemmas.List.Elements.{All-append, All-cons, All-head, All-nil, All-tail}
+use Rattle.std.proofs.lemmas.Grind.{flat_map-append}
+use Rattle.std.proofs.lemmas.List.{map-append}
+use Rattle.std.proofs.lemmas.List.Elements.{All-append}
 use Rattle.int_polyhedra.specs.declared.system.Proof.{Proof}
-use Rattle.last_writer.specs.Leaves.{AddsProofs, AreOrderRows}
-use Rattle.last_writer.proofs.ProofSteps.{adds_both, adds_nothing, adds_one}
+use Rattle.last_writer.specs.Leaves.{all_orders, fact_context, is_told, own_context, own_order, point_vars, told_order, AddsOrders}
+use Rattle.last_writer.specs.Leaves.{AddsProofs, AreOrderRows, HaveOrderRows, HaveRows}
+use Rattle.last_writer.specs.declared.leaves.Answered.{Answered}
+use Rattle.last_writer.specs.declared.writers.Writer.{Writer}
+use Rattle.last_writer.proofs.ProofSteps.{adds_both, adds_nothing, adds_one, adds_own}
 use Rattle.difference_graphs.proofs.RowBounds.{forms_append}
 use Rattle.row_sums.specs.Parts.{IsWithin}
 use Rattle.source_tree.specs.Checked.{AreRefuted, IsRefuted}
 use Rattle.source_tree.specs.Rows.{RowExpr, RowSystem}
-use Rattle.source_tree.specs.Systems.{Context}
+use Rattle.source_tree.specs.Systems.{with_rows}
 use Rattle.source_tree.proofs.Refutations.{AreRefuted-append}
-use Rattle.stride_trees.specs.Contexts.{AreMadeSmall}
-use Rattle.stride_trees.specs.Strides.{depth_of_write}
-use Rattle.stride_trees.specs.declared.strides.Strides.{Strides}
+use Rattle.stride_trees.specs.Contexts.{told_system}
 
--- rows one after the other
-pub small_both : (vars : ℕ) (xs ys : List RowExpr) → AreMadeSmall vars xs → AreMadeSmall vars ys
-    → AreMadeSmall vars (xs ++ ys)
-small_both vars xs ys h k = record {
-  forms = h.forms ++ k.forms;
-  are_made = forms_append vars xs ys h.forms k.forms h.are_made k.are_made;
-  within = All-append (IsWithin (2 ^ 90)) h.forms k.forms h.within k.within;
-}
+-- order rows behind order rows
+pub rows_both : (vars m n : ℕ) (xs ys : List RowExpr) → AreOrderRows vars m xs → AreOrderRows vars n ys
+    → AreOrderRows vars (m + n) (xs ++ ys)
+rows_both vars m n xs ys h k = (
+  omega (arith, length-append xs ys, h.0, k.0),
+  record {
+    forms = h.1.forms ++ k.1.forms;
+    are_made = forms_append vars xs ys h.1.forms k.1.forms h.1.are_made k.1.are_made;
+    within = All-append (IsWithin (2 ^ 90)) h.1.forms k.1.forms h.1.within k.1.within;
+  },
+)
 
--- the first of the orders, and the others
-pub record IsFirst (s : Strides) (c : Context) (n : ℕ) (ns : List ℕ) (rows : List (List RowExpr)) : Type 0 where
-  pub row : List RowExpr
-  pub others : List (List RowExpr)
-  pub is : rows ≡ row ∷ others
-  pub count : length row ≡ n
-  pub made : AreMadeSmall (c.vars + depth_of_write s) row
-  pub behind : AreOrderRows s c ns others
+-- where no proof is left
+pub none_left : (f g : List RowExpr → RowSystem) (orders : List (List RowExpr)) (told old : List Proof) → told ≡ []
+    → AddsProofs (map f orders) (map g orders) told told old old
+none_left f g [] told old e = adds_nothing told old
+none_left f g (rows ∷ orders) told old e = λ before more h k.
+    absurd (let no : AreRefuted (f rows ∷ (map f orders ++ more)) [] = subst (AreRefuted (f rows ∷ (map f orders ++ more))) e k
+    in no)
 
-pub first_order : (s : Strides) (c : Context) (counts : List ℕ) (n : ℕ) (ns : List ℕ) (rows : List (List RowExpr))
-    → counts ≡ n ∷ ns → AreOrderRows s c counts rows → IsFirst s c n ns rows
-first_order s c counts n ns [] e h = absurd (omega (arith, ap length (h.counted ∙ e)))
-first_order s c counts n ns (row ∷ others) e h =
-    let same : length row ∷ map length others ≡ n ∷ ns = h.counted ∙ e in
-    record {
-      row = row;
-      others = others;
-      is = refl;
-      count = head_is (length row) n (map length others) ns same;
-      made = All-head (AreMadeSmall (c.vars + depth_of_write s)) row others h.made;
-      behind = record {
-        counted = tail_is (length row) n (map length others) ns same;
-        made = All-tail (AreMadeSmall (c.vars + depth_of_write s)) row others h.made;
-      };
-    } where
-      first_of : ℕ → List ℕ → ℕ
-      first_of d [] = d
-      first_of d (x ∷ xs) = x
+-- Orders of a writer
 
-      rest_of : List ℕ → List ℕ
-      rest_of [] = []
-      rest_of (x ∷ xs) = xs
+module _ (w : Answered) (rest : List RowExpr) (x : Writer) where
+  abbrev told_one : List RowExpr → RowSystem
+  told_one rows = told_system x.strides x.places (fact_context w rest) rows
 
-      head_is : (a b : ℕ) (ms ns : List ℕ) → a ∷ ms ≡ b ∷ ns → a ≡ b
-      head_is a b ms ns e = ap (first_of 0) e
+  -- what is added for one order, as the tests say
+  abbrev AddsBy : Bool → List RowExpr → List Proof → List Proof → List Proof → List Proof → Type 0
+  AddsBy b rows told left old new =
+      AddsProofs (cond b (told_one rows ∷ []) [] ++ []) (own_order w rest x rows ∷ []) told left old new
 
-      tail_is : (a b : ℕ) (ms ns : List ℕ) → a ∷ ms ≡ b ∷ ns → ms ≡ ns
-      tail_is a b ms ns e = ap rest_of e
+  pub adds_told : (rows : List RowExpr) (proof own : Proof) (told left old new : List Proof)
+      → is_told w.answers.now x ≡ true → told ≡ proof ∷ left → new ≡ old ++ own ∷ []
+      → (IsRefuted (told_one rows) proof → IsRefuted (own_order w rest x rows) own)
+      → AddsOrders w rest x (rows ∷ []) told left old new
+  adds_told rows proof own told left old new says first last one =
+      subst (λ (b : Bool). AddsBy b rows told left old new) (sym says)
+      (adds_one (told_one rows) (own_order w rest x rows) proof own told left old new first last one)
 
-pub no_order : (s : Strides) (c : Context) (counts : List ℕ) (rows : List (List RowExpr)) → counts ≡ []
-    → AreOrderRows s c counts rows → rows ≡ []
-no_order s c counts [] e h = refl
-no_order s c counts (row ∷ rows) e h = absurd (omega (arith, ap length (h.counted ∙ e)))
+  pub adds_absent : (rows : List RowExpr) (told old : List Proof) → is_told w.answers.now x ≡ true → told ≡ []
+      → AddsOrders w rest x (rows ∷ []) told told old old
+  adds_absent rows told old says none =
+      subst (λ (b : Bool). AddsBy b rows told told old old) (sym says)
+      (none_left told_one (own_order w rest x) (rows ∷ []) told old none)
 
--- Proofs that are converted
+  pub adds_refused : (rows : List RowExpr) (own : Proof) (told old new : List Proof) → is_told w.answers.now x ≡ false
+      → new ≡ old ++ own ∷ [] → IsRefuted (own_order w rest x rows) own
+      → AddsOrders w rest x (rows ∷ []) told told old new
+  adds_refused rows own told old new denies last one =
+      subst (λ (b : Bool). AddsBy b rows told told old new) (sym denies)
+      (adds_own (own_order w rest x rows ∷ []) told old new
+      (λ before h. subst (AreRefuted (before ++ own_order w rest x rows ∷ [])) (sym last)
+      (AreRefuted-append before (own_order w rest x rows ∷ []) old (own ∷ []) h (one, tt))))
 
-pub orders_none : (s : Strides) (c : Context) (f g : List RowExpr → RowSystem) (counts : List ℕ)
-    (rows : List (List RowExpr)) (told old : List Proof) → counts ≡ [] → AreOrderRows s c counts rows
-    → AddsProofs (map f rows) (map g rows) told told old old
-orders_none s c f g counts rows told old e h =
-    subst (λ rows. AddsProofs (map f rows) (map g rows) told told old old) (sym (no_order s c counts rows e h))
-    (adds_nothing told old)
+  adds_append : (first second : List (List RowExpr)) (told middle left old between new : List Proof)
+      → AddsOrders w rest x first told middle old between → AddsOrders w rest x second middle left between new
+      → AddsOrders w rest x (first ++ second) told left old new
+  adds_append first second told middle left old between new h k =
+      let from : List (List RowExpr) → List RowSystem = flat_map (told_order w rest x) in
+      let to : List (List RowExpr) → List RowSystem = map (own_order w rest x) in
+      subst (λ systems. AddsProofs systems (to (first ++ second)) told left old new)
+      (sym (flat_map-append (told_order w rest x) first second))
+      (subst (λ systems. AddsProofs (from first ++ from second) systems told left old new)
+      (sym (map-append (own_order w rest x) first second))
+      (adds_both (from first) (from second) (to first) (to second) told middle left old between new h k))
 
-pub none_told : (f g : List RowExpr → RowSystem) (rows : List (List RowExpr)) (told old : List Proof) → told ≡ []
-    → AddsProofs (map f rows) (map g rows) told told old old
-none_told f g [] told old e = adds_nothing told old
-none_told f g (row ∷ rows) told old e = λ before more h k.
-    absurd (let no : AreRefuted (f row ∷ (map f rows ++ more)) [] = subst (AreRefuted (f row ∷ (map f rows ++ more))) e k in no)
+  pub orders_none : (level : List RowExpr) (counts : List ℕ) (orders : List (List RowExpr)) (told old : List Proof)
+      → counts ≡ [] → HaveOrderRows (point_vars w x) counts orders
+      → AddsOrders w rest x (map (λ rows. level ++ rows) orders) told told old old
+  orders_none level counts orders told old e h =
+      go orders (subst (λ ns. HaveOrderRows (point_vars w x) ns orders) e h) where
+        go : (orders : List (List RowExpr)) → HaveOrderRows (point_vars w x) [] orders
+            → AddsOrders w rest x (map (λ rows. level ++ rows) orders) told told old old
+        go [] h = adds_nothing told old
+        go (rows ∷ orders) h = absurd h
 
-pub order_step : (s : Strides) (c : Context) (f g : List RowExpr → RowSystem) (counts : List ℕ) (n : ℕ) (ns : List ℕ)
-    (rows : List (List RowExpr)) (proof own : Proof) (told left rest old middle new : List Proof) → counts ≡ n ∷ ns
-    → AreOrderRows s c counts rows → told ≡ proof ∷ left → middle ≡ old ++ own ∷ []
-    → ((row : List RowExpr) → length row ≡ n → AreMadeSmall (c.vars + depth_of_write s) row
-    → IsRefuted (f row) proof → IsRefuted (g row) own)
-    → ((others : List (List RowExpr)) → AreOrderRows s c ns others
-    → AddsProofs (map f others) (map g others) left rest middle new)
-    → AddsProofs (map f rows) (map g rows) told rest old new
-order_step s c f g counts n ns rows proof own told left rest old middle new e h first last one others =
-    let o : IsFirst s c n ns rows = first_order s c counts n ns rows e h in
-    subst (λ rows. AddsProofs (map f rows) (map g rows) told rest old new) (sym o.is)
-    (adds_both (f o.row ∷ []) (map f o.others) (g o.row ∷ []) (map g o.others) told left rest old middle new
-    (adds_one (f o.row) (g o.row) proof own told left old middle first last (one o.row o.count o.made))
-    (others o.others o.behind))
+  pub orders_step : (level : List RowExpr) (counts : List ℕ) (n : ℕ) (ns : List ℕ) (orders : List (List RowExpr))
+      (told middle left old between new : List Proof) → counts ≡ n ∷ ns
+      → HaveOrderRows (point_vars w x) counts orders
+      → ((rows : List RowExpr) → AreOrderRows (point_vars w x) n rows
+      → AddsOrders w rest x ((level ++ rows) ∷ []) told middle old between)
+      → ((others : List (List RowExpr)) → HaveOrderRows (point_vars w x) ns others
+      → AddsOrders w rest x (map (λ rows. level ++ rows) others) middle left between new)
+      → AddsOrders w rest x (map (λ rows. level ++ rows) orders) told left old new
+  orders_step level counts n ns orders told middle left old between new e h one others =
+      go orders (subst (λ ns. HaveOrderRows (point_vars w x) ns orders) e h) where
+        go : (orders : List (List RowExpr)) → HaveOrderRows (point_vars w x) (n ∷ ns) orders
+            → AddsOrders w rest x (map (λ rows. level ++ rows) orders) told left old new
+        go [] h = absurd h
+        go (rows ∷ orders) h =
+            adds_append ((level ++ rows) ∷ []) (map (λ rows. level ++ rows) orders) told middle left old between new
+            (one rows h.0) (others orders h.1)
 
-pub levels_none : (s : Strides) (c : Context) (f g : List RowExpr → List RowSystem) (counts : List ℕ)
-    (rows : List (List RowExpr)) (told old : List Proof) → counts ≡ [] → AreOrderRows s c counts rows
-    → AddsProofs (flat_map f rows) (flat_map g rows) told told old old
-levels_none s c f g counts rows told old e h =
-    subst (λ rows. AddsProofs (flat_map f rows) (flat_map g rows) told told old old) (sym (no_order s c counts rows e h))
-    (adds_nothing told old)
+  pub levels_none : (behind : List (List RowExpr)) (counts : List ℕ) (at : List (List RowExpr)) (told old : List Proof)
+      → counts ≡ [] → HaveOrderRows (point_vars w x) counts at
+      → AddsOrders w rest x (all_orders behind at) told told old old
+  levels_none behind counts at told old e h = go at (subst (λ ns. HaveOrderRows (point_vars w x) ns at) e h) where
+    go : (at : List (List RowExpr)) → HaveOrderRows (point_vars w x) [] at
+        → AddsOrders w rest x (all_orders behind at) told told old old
+    go [] h = adds_nothing told old
+    go (level ∷ at) h = absurd h
 
-pub level_step : (s : Strides) (c : Context) (f g : List RowExpr → List RowSystem) (counts : List ℕ) (n : ℕ)
-    (ns : List ℕ) (rows : List (List RowExpr)) (told left rest old middle new : List Proof) → counts ≡ n ∷ ns
-    → AreOrderRows s c counts rows
-    → ((row : List RowExpr) → AreOrderRows s c (n ∷ []) (row ∷ []) → AddsProofs (f row) (g row) told left old middle)
-    → ((others : List (List RowExpr)) → AreOrderRows s c ns others
-    → AddsProofs (flat_map f others) (flat_map g others) left rest middle new)
-    → AddsProofs (flat_map f rows) (flat_map g rows) told rest old new
-level_step s c f g counts n ns rows told left rest old middle new e h one others =
-    let o : IsFirst s c n ns rows = first_order s c counts n ns rows e h in
-    subst (λ rows. AddsProofs (flat_map f rows) (flat_map g rows) told rest old new) (sym o.is)
-    (adds_both (f o.row) (flat_map f o.others) (g o.row) (flat_map g o.others) told left rest old middle new
-    (one o.row (record {
-      counted = ap (λ n. n ∷ []) o.count;
-      made = All-cons (AreMadeSmall (c.vars + depth_of_write s)) o.row [] o.made (All-nil _);
-    })) (others o.others o.behind))
+  pub levels_step : (behind : List (List RowExpr)) (counts : List ℕ) (n : ℕ) (ns : List ℕ) (at : List (List RowExpr))
+      (told middle left old between new : List Proof) → counts ≡ n ∷ ns → HaveOrderRows (point_vars w x) counts at
+      → ((level : List RowExpr) → AreOrderRows (point_vars w x) n level
+      → AddsOrders w rest x (map (λ rows. level ++ rows) behind) told middle old between)
+      → ((others : List (List RowExpr)) → HaveOrderRows (point_vars w x) ns others
+      → AddsOrders w rest x (all_orders behind others) middle left between new)
+      → AddsOrders w rest x (all_orders behind at) told left old new
+  levels_step behind counts n ns at told middle left old between new e h one others =
+      go at (subst (λ ns. HaveOrderRows (point_vars w x) ns at) e h) where
+        go : (at : List (List RowExpr)) → HaveOrderRows (point_vars w x) (n ∷ ns) at
+            → AddsOrders w rest x (all_orders behind at) told left old new
+        go [] h = absurd h
+        go (level ∷ at) h =
+            adds_append (map (λ rows. level ++ rows) behind) (all_orders behind at) told middle left old between new
+            (one level h.0) (others at h.1)
 
--- the one level there is
-pub only_level : (s : Strides) (c : Context) (n : ℕ) (level : List RowExpr) → AreOrderRows s c (n ∷ []) (level ∷ [])
-    → (length level ≡ n) × AreMadeSmall (c.vars + depth_of_write s) level
-only_level s c n level h = (same_first h.counted, All-head (AreMadeSmall (c.vars + depth_of_write s)) level [] h.made) where
-  first_of : List ℕ → ℕ
-  first_of [] = 0
-  first_of (x ∷ xs) = x
+-- Orders of the reader behind a place
 
-  same_first : length level ∷ [] ≡ n ∷ [] → length level ≡ n
-  same_first e = ap first_of e
+module _ (w : Answered) (rest : List RowExpr) where
+  abbrev pub AddsAfter : List (List RowExpr) → List Proof → List Proof → List Proof → List Proof → Type 0
+  AddsAfter orders told left old new =
+      AddsProofs (map (with_rows (fact_context w rest)) orders) (map (with_rows (own_context w rest)) orders) told left old new
 
--- Proofs of a write that a test refuses
+  pub after_none : (counts : List ℕ) (orders : List (List RowExpr)) (told old : List Proof) → counts ≡ []
+      → HaveRows counts orders → AddsAfter orders told told old old
+  after_none counts orders told old e h = go orders (subst (λ ns. HaveRows ns orders) e h) where
+    go : (orders : List (List RowExpr)) → HaveRows [] orders → AddsAfter orders told told old old
+    go [] h = adds_nothing told old
+    go (order ∷ orders) h = absurd h
 
-abbrev pub AddsOwn : List RowSystem → List Proof → List Proof → Type 0
-AddsOwn to old new = (systems : List RowSystem) → AreRefuted systems old → AreRefuted (systems ++ to) new
-
-pub own_none : (old : List Proof) (to : List RowSystem) → to ≡ [] → AddsOwn to old old
-own_none old to e systems h =
-    subst (λ to. AreRefuted (systems ++ to) old) (sym e)
-    (subst (λ xs. AreRefuted xs old) (sym (append-nil systems)) h)
-
-pub own_both : (t u : List RowSystem) (old middle new : List Proof) → AddsOwn t old middle → AddsOwn u middle new
-    → AddsOwn (t ++ u) old new
-own_both t u old middle new first second systems h =
-    subst (λ xs. AreRefuted xs new) (append_assoc systems t u) (second (systems ++ t) (first systems h))
-
-pub own_one : (to : RowSystem) (own : Proof) (old new : List Proof) → new ≡ old ++ own ∷ [] → IsRefuted to own
-    → AddsOwn (to ∷ []) old new
-own_one to own old new e one systems h =
-    subst (AreRefuted (systems ++ to ∷ [])) (sym e) (AreRefuted-append systems (to ∷ []) old (own ∷ []) h (one, tt))
-
-pub own_order_step : (s : Strides) (c : Context) (g : List RowExpr → RowSystem) (counts : List ℕ) (n : ℕ)
-    (ns : List ℕ) (rows : List (List RowExpr)) (own : Proof) (old middle new : List Proof) → counts ≡ n ∷ ns
-    → AreOrderRows s c counts rows → middle ≡ old ++ own ∷ []
-    → ((row : List RowExpr) → length row ≡ n → AreMadeSmall (c.vars + depth_of_write s) row → IsRefuted (g row) own)
-    → ((others : List (List RowExpr)) → AreOrderRows s c ns others → AddsOwn (map g others) middle new)
-    → AddsOwn (map g rows) old new
-own_order_step s c g counts n ns rows own old middle new e h last one others =
-    let o : IsFirst s c n ns rows = first_order s c counts n ns rows e h in
-    subst (λ rows. AddsOwn (map g rows) old new) (sym o.is)
-    (own_both (g o.row ∷ []) (map g o.others) old middle new
-    (own_one (g o.row) own old middle last (one o.row o.count o.made)) (others o.others o.behind))
-
-pub own_level_step : (s : Strides) (c : Context) (g : List RowExpr → List RowSystem) (counts : List ℕ) (n : ℕ)
-    (ns : List ℕ) (rows : List (List RowExpr)) (old middle new : List Proof) → counts ≡ n ∷ ns
-    → AreOrderRows s c counts rows
-    → ((row : List RowExpr) → AreOrderRows s c (n ∷ []) (row ∷ []) → AddsOwn (g row) old middle)
-    → ((others : List (List RowExpr)) → AreOrderRows s c ns others → AddsOwn (flat_map g others) middle new)
-    → AddsOwn (flat_map g rows) old new
-own_level_step s c g counts n ns rows old middle new e h one others =
-    let o : IsFirst s c n ns rows = first_order s c counts n ns rows e h in
-    subst (λ rows. AddsOwn (flat_map g rows) old new) (sym o.is)
-    (own_both (g o.row) (flat_map g o.others) old middle new
-    (one o.row (record {
-      counted = ap (λ n. n ∷ []) o.count;
-      made = All-cons (AreMadeSmall (c.vars + depth_of_write s)) o.row [] o.made (All-nil _);
-    })) (others o.others o.behind))
+  pub after_step : (counts : List ℕ) (n : ℕ) (ns : List ℕ) (orders : List (List RowExpr)) (proof own : Proof)
+      (told middle left old between new : List Proof) → counts ≡ n ∷ ns → HaveRows counts orders → told ≡ proof ∷ middle
+      → between ≡ old ++ own ∷ []
+      → ((order : List RowExpr) → length order ≡ n → IsRefuted (with_rows (fact_context w rest) order) proof
+      → IsRefuted (with_rows (own_context w rest) order) own)
+      → ((others : List (List RowExpr)) → HaveRows ns others → AddsAfter others middle left between new)
+      → AddsAfter orders told left old new
+  after_step counts n ns orders proof own told middle left old between new e h first last one others =
+      go orders (subst (λ ns. HaveRows ns orders) e h) where
+        go : (orders : List (List RowExpr)) → HaveRows (n ∷ ns) orders → AddsAfter orders told left old new
+        go [] h = absurd h
+        go (order ∷ orders) h =
+            adds_both (with_rows (fact_context w rest) order ∷ []) (map (with_rows (fact_context w rest)) orders)
+            (with_rows (own_context w rest) order ∷ []) (map (with_rows (own_context w rest)) orders) told middle left old
+            between new
+            (adds_one (with_rows (fact_context w rest) order) (with_rows (own_context w rest) order) proof own told middle old
+            between first last (one order h.0)) (others orders h.1)

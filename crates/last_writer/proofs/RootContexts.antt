@@ -10,7 +10,8 @@ use Rattle.std.proofs.lemmas.List.Elements.{All-nil, All-weaker}
 use Rattle.std.proofs.lemmas.Option.{same_Some}
 use Rattle.difference_graphs.specs.Contexts.{IsMadeAs}
 use Rattle.int_polyhedra.specs.declared.system.System.{System}
-use Rattle.last_writer.specs.Answers.{answered_context, HasSmallRows}
+use Rattle.last_writer.specs.Answers.{answered_context}
+use Rattle.stride_trees.specs.Answers.{HasSmallRows}
 use Rattle.last_writer.specs.Leaves.{context_of, vars_of, IsAnswered}
 use Rattle.last_writer.specs.Writers.{is_never, AreWriters, IsReadOf, IsWriterOf}
 use Rattle.last_writer.specs.declared.leaves.Answered.{Answered}

@@ -16,7 +16,7 @@ use Rattle.affine_core.specs.Affine.{constant_form, form_product}
 use Rattle.affine_core.proofs.Linear.{length-sums}
 use Rattle.difference_graphs.specs.Joint.{no_orders, write_systems_of, IsCheckedForAll}
 use Rattle.int_polyhedra.specs.declared.system.Proof.{Proof}
-use Rattle.last_writer.specs.Leaves.{context_of, fact_context, own_systems, pairs_of, told_pairs}
+use Rattle.last_writer.specs.Leaves.{context_of, fact_context, own_context, own_systems, pairs_of, told_pairs}
 use Rattle.last_writer.specs.Leaves.{told_systems, Converts, HasFacts, IsAnswered, IsBelow}
 use Rattle.last_writer.specs.Leaves.{IsJoinedBelow, IsJoinedPoint, IsOwnPoint}
 use Rattle.last_writer.specs.declared.leaves.Answered.{Answered}
@@ -172,16 +172,17 @@ module _ (w : Answered) (here : ℕ) where
 
 -- All writers
 
-pub all_written : (w : Answered) (here : ℕ) (c : Context) (further : Occurrence → List (List RowExpr)) (told proofs : List Proof)
-    (before : List RowSystem) → IsAnswered w → IsBelow w here c
-    → (AreRefuted (flat_map (told_systems w.answers.now c further) w.writers.now) told
-    → AreRefuted (before ++ flat_map (own_systems c further) w.writers.now) proofs)
-    → AreRefuted (write_systems_of (pairs_of w) c further) told
-    → AreRefuted (before ++ flat_map (write_systems (occurrence_of w.read) every c further)
+pub all_written : (w : Answered) (here : ℕ) (rest : List RowExpr) (further : Occurrence → List (List RowExpr))
+    (told proofs : List Proof) (before : List RowSystem) → IsAnswered w → IsBelow w here (fact_context w rest)
+    → (AreRefuted (flat_map (told_systems w.answers.now (fact_context w rest) further) w.writers.now) told
+    → AreRefuted (before ++ flat_map (own_systems (own_context w rest) further) w.writers.now) proofs)
+    → AreRefuted (write_systems_of (pairs_of w) (fact_context w rest) further) told
+    → AreRefuted (before ++ flat_map (write_systems (occurrence_of w.read) every (own_context w rest) further)
     (array_writes w.nest.now (occurrence_of w.read))) proofs
-all_written w here c further told proofs before h below convert refuted =
+all_written w here rest further told proofs before h below convert refuted =
+    let c : Context = fact_context w rest in
     subst (λ xs. AreRefuted (before ++ xs) proofs)
-    (own_are w.nest.now (occurrence_of w.read) w.tests.now c further w.writers.now h.writers)
+    (own_are w.nest.now (occurrence_of w.read) w.tests.now (own_context w rest) further w.writers.now h.writers)
     (convert (subst (λ xs. AreRefuted xs told)
     (sym (told_are w.answers.now c further w.writers.now
     ∙ ap (λ vars. write_systems_of (told_pairs vars w.answers.now w.writers.now) c further) (below_vars w here c below)))

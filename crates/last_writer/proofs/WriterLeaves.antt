@@ -1,39 +1,44 @@
 -- A Writer leaf, part by part.
 --
 -- Its write is that of the one writer with its number, which is told. The proofs are those that the place is in the
--- domain and writes the read's cell, as many as rows and subscripts say, those that the read isn't before it, and
--- those of the writes between, so they are cut at these numbers and put together again for the nest's own systems.
+-- domain and writes the read's cell, as many as rows and subscripts say, those that the reader isn't before it, and
+-- those of the writes between. The first are cut off by their number; of the others each step takes what is its own.
 use Rattle.std.proofs.Common.{◌≡◌, ◌==◌, ◌+◌, ◌*◌, ◌≤◌, ℕ, zero, suc, List, [], ◌∷◌, ◌++◌, length, map, take, drop}
 use Rattle.std.proofs.Common.{Bool, true, false, cond, refl, sym, ap, ◌∙◌, subst, arith, length-append}
 use Rattle.std.specs.Prelude.{Some, Contains, nat_lt, slice_get}
 use Rattle.std.specs.List.{filter, flat_map}
 use Rattle.std.specs.Option.{option_map}
-use Rattle.std.proofs.lemmas.List.{append_assoc, length-map}
+use Rattle.std.proofs.lemmas.Bool.{eqb-true}
+use Rattle.std.proofs.lemmas.List.{append_assoc, length-map, map-append}
 use Rattle.std.proofs.lemmas.List.Elements.{All-contains}
 use Rattle.std.proofs.lemmas.Option.{same_Some, slice_get-map}
 use Rattle.affine_core.specs.declared.form.Form.{Form}
 use Rattle.difference_graphs.specs.Joint.{orders_behind, write_systems_of}
 use Rattle.difference_graphs.specs.Joint.{ReadAndWrite}
-use Rattle.candidate_join.proofs.LevelCounts.{order_count}
+use Rattle.difference_graphs.specs.Level.{common_of}
 use Rattle.int_polyhedra.specs.declared.system.Proof.{Proof}
-use Rattle.last_writer.specs.Leaves.{after_systems_count, is_told, own_systems, pairs_of, told_pair, told_pairs, told_systems}
-use Rattle.last_writer.specs.Leaves.{vars_of, IsAnswered, IsBelow, IsJoinedPoint, IsOwnPoint}
+use Rattle.last_writer.specs.Leaves.{after_counts, after_orders, cell_count, fact_context, is_told, order_counts, own_context}
+use Rattle.last_writer.specs.Leaves.{own_place_systems, own_systems, pairs_of, told_pair, told_pairs, told_place_systems}
+use Rattle.last_writer.specs.Leaves.{told_systems, vars_of, AddsProofs, HaveRows, IsAnswered, IsAtLeaf, IsJoinedPoint}
+use Rattle.last_writer.specs.Leaves.{IsOwnPoint}
 use Rattle.last_writer.specs.Writers.{IsWriterOf}
 use Rattle.last_writer.specs.declared.leaves.Answered.{Answered}
 use Rattle.last_writer.specs.declared.writers.Writer.{Writer}
+use Rattle.last_writer.proofs.FactLeaves.{after_is}
+use Rattle.last_writer.proofs.LevelCounts.{order_lengths}
 use Rattle.last_writer.proofs.TreeConversion.{all_written}
 use Rattle.last_writer.proofs.LeafConversion.{below_vars}
 use Rattle.last_writer.proofs.QuotientWrites.{contains_at, one_place, writers_ascend, Ascend}
 use Rattle.difference_graphs.proofs.OrderEdges.{length_variables}
-use Rattle.sanlp.specs.Order.{common_loops}
 use Rattle.sanlp.proofs.Precedence.{common_first, common_second}
 use Rattle.sanlp.specs.declared.nest.Nest.{Nest}
+use Rattle.sanlp.specs.declared.nest.Statement.{Statement}
 use Rattle.source_tree.specs.Checked.{AreRefuted}
 use Rattle.source_tree.specs.Places.{at_place, before_rows, differ_rows, same_rows}
-use Rattle.source_tree.specs.Rows.{RowSystem, below_zero}
-use Rattle.source_tree.specs.Systems.{Context, Occurrence, after_systems, cell_systems, named_write, outside_systems, reader_place}
-use Rattle.source_tree.specs.Systems.{array_writes, every, same_systems, with_rows, write_systems}
-use Rattle.source_tree.proofs.Refutations.{AreRefuted-append, length-AreRefuted}
+use Rattle.source_tree.specs.Rows.{RowExpr, RowSystem, below_zero}
+use Rattle.source_tree.specs.Systems.{Context, Occurrence, after_systems, array_writes, cell_systems, every, named_write}
+use Rattle.source_tree.specs.Systems.{outside_systems, reader_place, with_rows, write_systems}
+use Rattle.source_tree.proofs.Refutations.{length-AreRefuted}
 use Rattle.source_tree.specs.References.{occurrence_of}
 use Rattle.stride_trees.specs.Contexts.{outside_cell_systems, IsPlaceIn}
 use Rattle.stride_trees.specs.Problem.{problem_reads, problem_rows, problem_write, problem_writes, told_read, told_write}
@@ -101,9 +106,12 @@ writer_fits w x h there =
     All-contains (IsWriterOf w.nest.now (occurrence_of w.read) w.tests.now) w.writers.now x h.writers.each there in
     are_fitting x.strides.nest.now (read_of x.strides) (write_of x.strides) x.strides.level of.strided.strided
 
-module _ (w : Answered) (here : ℕ) (c : Context) (number : ℕ) (place : List Form) (told : List Proof) (x : Writer)
-    (h : IsAnswered w) (below : IsBelow w here c) (j : IsJoinedPoint w c number place told)
+module _ (w : Answered) (here : ℕ) (rest : List RowExpr) (number : ℕ) (place : List Form) (told : List Proof) (x : Writer)
+    (h : IsAnswered w) (below : IsAtLeaf w here rest) (j : IsJoinedPoint w (fact_context w rest) number place told)
     (there : Contains w.writers.now x) (named : x.strides.write.number ≡ number) where
+  abbrev c : Context
+  c = fact_context w rest
+
   abbrev s : Strides
   s = x.strides
 
@@ -119,7 +127,7 @@ module _ (w : Answered) (here : ℕ) (c : Context) (number : ℕ) (place : List 
   abbrev u' : Occurrence
   u' = told_write (write_of x.strides)
 
-  of : IsWriterOf w.nest.now (occurrence_of w.read) w.tests.now x
+  pub of : IsWriterOf w.nest.now (occurrence_of w.read) w.tests.now x
   of = All-contains (IsWriterOf w.nest.now (occurrence_of w.read) w.tests.now) w.writers.now x h.writers.each there
 
   fits : AreFitting s.nest.now r u s.level
@@ -131,7 +139,7 @@ module _ (w : Answered) (here : ℕ) (c : Context) (number : ℕ) (place : List 
       let same : x ≡ p.writer
       = one_writer w.writers.now (writers_ascend w.nest.now (occurrence_of w.read) w.tests.now w.writers.now h.writers) x
       p.writer there p.there (named ∙ j.number_is ∙ sym (ap (λ (o : ReadAndWrite). o.write.number) p.is)) in (
-        ap (λ v. told_pair v x) (below_vars w here c below) ∙ ap (told_pair (vars_of w)) same ∙ p.is,
+        ap (λ v. told_pair v x) (below_vars w (here + length w.cuts.now) c below) ∙ ap (told_pair (vars_of w)) same ∙ p.is,
         ap (is_told w.answers.now) same ∙ p.told,
       )
 
@@ -162,9 +170,6 @@ module _ (w : Answered) (here : ℕ) (c : Context) (number : ℕ) (place : List 
 
   pub first : AreRefutedBoth outside (after ++ between) told
   first = refuted_apart outside (after ++ between) told told_refuted
-
-  pub second : AreRefutedBoth after between first.back
-  second = refuted_apart after between first.back first.of_second
 
   deep : length place ≡ length u.statement.loops
   deep = j.deep ∙ sym (ap (λ (o : ReadAndWrite). length o.write.statement.loops) pair_is.0)
@@ -202,28 +207,6 @@ module _ (w : Answered) (here : ℕ) (c : Context) (number : ℕ) (place : List 
         reads_count vars depth places (write ∷ writes) (read ∷ reads) e =
             ap suc (reads_count vars depth (places_behind write places) writes reads (omega (arith, e)))
 
-  pub after_count : length second.front ≡ after_systems_count r u
-  after_count =
-      omega (
-        arith,
-        length-AreRefuted after second.front second.of_first,
-        length-append (map (with_rows c) (before_rows r.number r.statement (reader_place r) u.number u.statement place))
-            (same_systems r c u place),
-        length-map (before_rows r.number r.statement (reader_place r) u.number u.statement place) (with_rows c),
-        order_count (common_loops r.statement.loops u.statement.loops) (nat_lt r.number u.number) (reader_place r) place
-            (omega (
-              arith,
-              length_variables 0 (length r.statement.loops),
-              common_first r.statement.loops u.statement.loops,
-            ))
-            (omega (arith, deep, common_second r.statement.loops u.statement.loops)),
-        same_count (u.number == r.number),
-      ) where
-        same_count : (b : Bool) → length (cond {A = List RowSystem} b (with_rows c (same_rows (reader_place r) place) ∷ []) [])
-            ≡ cond {A = ℕ} b 1 0
-        same_count true = refl
-        same_count false = refl
-
   -- the cuts
   take_front : (xs ys : List Proof) (k : ℕ) → length xs ≡ k → take k (xs ++ ys) ≡ xs
   take_front [] ys zero e = take_none ys where
@@ -243,9 +226,7 @@ module _ (w : Answered) (here : ℕ) (c : Context) (number : ℕ) (place : List 
   drop_front (x ∷ xs) ys zero e = absurd (omega (arith, e))
   drop_front (x ∷ xs) ys (suc k) e = drop_front xs ys k (omega (arith, e))
 
-  module _ (cells count : ℕ)
-      (cells_are : cells ≡ length s.write.statement.now.rows + 2 * length s.write.access.now.subscripts)
-      (count_is : count ≡ after_systems_count r u) where
+  module _ (cells : ℕ) (cells_are : cells ≡ cell_count u) where
     pub front_is : take cells told ≡ first.front
     front_is = ap (take cells) first.is ∙ take_front first.front first.back cells (place_count ∙ sym cells_are)
 
@@ -255,47 +236,95 @@ module _ (w : Answered) (here : ℕ) (c : Context) (number : ℕ) (place : List 
     pub cells_inside : cells ≤ length told
     cells_inside = omega (arith, ap length first.is, length-append first.front first.back, place_count, cells_are)
 
-    pub middle_is : take count (drop cells told) ≡ second.front
-    middle_is = ap (take count) (back_is ∙ second.is)
-        ∙ take_front second.front second.back count (after_count ∙ sym count_is)
+  -- where the write is of the reader's statement, both have the same loops
+  same_loops : (u.number == r.number) ≡ true → length u.statement.loops ≡ length r.statement.loops
+  same_loops e =
+      let at : slice_get w.nest.now.statements u.number ≡ Some u.statement =
+      subst (λ (n : Nest). slice_get n.statements u.number ≡ Some u.statement) of.nest fits.named.is in
+      let reader : slice_get w.nest.now.statements r.number ≡ Some r.statement =
+      subst (λ (r : Occurrence). slice_get w.nest.now.statements r.number ≡ Some r.statement) (sym of.read) h.read.statement in
+      let same : u.statement ≡ r.statement =
+      same_Some u.statement r.statement
+      (sym at ∙ ap (slice_get w.nest.now.statements) (eqb-true u.number r.number e) ∙ reader) in
+      ap (λ (s : Statement). length s.loops) same
 
-    pub last_is : drop count (drop cells told) ≡ second.back
-    last_is = ap (drop count) (back_is ∙ second.is)
-        ∙ drop_front second.front second.back count (after_count ∙ sym count_is)
+  -- the orders of the reader before the place have as many rows as were counted
+  abbrev orders : List (List RowExpr)
+  orders = after_orders r u place
 
-    pub count_inside : count ≤ length (drop cells told)
-    count_inside =
-        omega (arith, ap length (back_is ∙ second.is), length-append second.front second.back, after_count, count_is)
+  same_rows_long : (a b : List Form) → length a ≡ length b → length (same_rows a b) ≡ 2 * length a
+  same_rows_long [] [] e = omega arith
+  same_rows_long [] (f ∷ b) e = omega arith
+  same_rows_long (f ∷ a) [] e = absurd (omega (arith, e))
+  same_rows_long (f ∷ a) (g ∷ b) e = omega (arith, same_rows_long a b (omega (arith, e)))
 
-    -- the proofs of the nest's own leaf
-    pub own_point : (own proofs : List Proof)
-        → (AreRefuted outside first.front → AreRefuted (outside_cell_systems r u c place) own)
-        → ((systems : List RowSystem) → AreRefuted systems (own ++ second.front)
-        → AreRefuted (flat_map (told_systems w.answers.now c (orders_behind u place c)) w.writers.now) second.back
-        → AreRefuted (systems ++ flat_map (own_systems c (orders_behind u place c)) w.writers.now) proofs)
-        → IsOwnPoint w c number place proofs
-    own_point own proofs converted written =
-        let systems : List RowSystem = outside_cell_systems r u c place ++ after in
-        let before : AreRefuted systems (own ++ second.front) =
-        AreRefuted-append (outside_cell_systems r u c place) after own second.front (converted first.of_first) second.of_first in
-        let all : AreRefuted (systems ++ flat_map (write_systems (occurrence_of w.read) every c (orders_behind u place c))
-        (array_writes w.nest.now (occurrence_of w.read))) proofs
-        = all_written w here c (orders_behind u place c) second.back proofs systems h below (written systems before)
-        second.of_second in
-        record {
-          write = u;
-          named = subst (λ (n : Nest). named_write n (occurrence_of w.read) number ≡ Some u) of.nest
-              (subst (λ (r : Occurrence). named_write s.nest.now r number ≡ Some u) of.read
-              (ap (named_write s.nest.now r) (sym named) ∙ of.strided.strided.write));
-          deep = deep;
-          refuted = subst (λ (rr : Occurrence). AreRefuted (outside_systems c u place
-              ++ (cell_systems rr c u place ++ (after_systems rr c u place
-              ++ flat_map (write_systems (occurrence_of w.read) every c (orders_behind u place c))
-              (array_writes w.nest.now (occurrence_of w.read))))) proofs) of.read
-              (subst (λ xs. AreRefuted xs proofs)
-              (apart (outside_systems c u place) (cell_systems r c u place) after
-              (flat_map (write_systems (occurrence_of w.read) every c (orders_behind u place c))
-              (array_writes w.nest.now (occurrence_of w.read)))) all);
-        } where
-          apart : (a b d e : List RowSystem) → ((a ++ b) ++ d) ++ e ≡ a ++ (b ++ (d ++ e))
-          apart a b d e = append_assoc (a ++ b) d e ∙ append_assoc a b (d ++ e)
+  lengths_are : map length orders ≡ after_counts r u
+  lengths_are =
+      let before : List (List RowExpr) =
+      before_rows r.number r.statement (reader_place r) u.number u.statement place in
+      map-append length before (cond (u.number == r.number) (same_rows (reader_place r) place ∷ []) [])
+      ∙ ap (λ ns. ns ++ map length (cond (u.number == r.number) (same_rows (reader_place r) place ∷ []) []))
+      (order_lengths (common_of r u) (nat_lt r.number u.number) (reader_place r) place
+      (omega (
+        arith,
+        length_variables 0 (length r.statement.loops),
+        common_first r.statement.loops u.statement.loops,
+      ))
+      (omega (arith, deep, common_second r.statement.loops u.statement.loops)))
+      ∙ ap (λ ns. order_counts r u ++ ns) (go (u.number == r.number) refl) where
+        go : (b : Bool) → (u.number == r.number) ≡ b
+            → map length (cond b (same_rows (reader_place r) place ∷ []) []) ≡ cond b ((2 * length r.statement.loops) ∷ []) []
+        go true e =
+            let both : length (reader_place r) ≡ length place =
+            omega (arith, length_variables 0 (length r.statement.loops), deep, same_loops e) in
+            let long : length (same_rows (reader_place r) place) ≡ 2 * length r.statement.loops =
+            omega (arith, same_rows_long (reader_place r) place both, length_variables 0 (length r.statement.loops)) in
+            ap (λ n. n ∷ []) long
+        go false e = refl
+
+  pub orders_long : (counts : List ℕ) → counts ≡ after_counts (occurrence_of w.read) u → HaveRows counts orders
+  orders_long counts e =
+      subst (λ ns. HaveRows ns orders)
+      (lengths_are ∙ ap (λ (r : Occurrence). after_counts r u) of.read ∙ sym e) (go orders) where
+        go : (orders : List (List RowExpr)) → HaveRows (map length orders) orders
+        go [] = tt
+        go (rows ∷ orders) = (refl, go orders)
+
+  -- the proofs of the nest's own leaf
+  pub own_point : (cells left middle proofs : List Proof)
+      → (AreRefuted (told_place_systems w rest x place) first.front → AreRefuted (own_place_systems w rest x place) cells)
+      → AddsProofs (map (with_rows c) orders) (map (with_rows (own_context w rest)) orders) first.back left cells middle
+      → ((systems : List RowSystem) → AreRefuted systems middle
+      → AreRefuted (flat_map (told_systems w.answers.now c (orders_behind u place c)) w.writers.now) left
+      → AreRefuted (systems ++ flat_map (own_systems (own_context w rest) (orders_behind u place c)) w.writers.now) proofs)
+      → IsOwnPoint w (own_context w rest) number place proofs
+  own_point cells left middle proofs converted added written =
+      let own : Context = own_context w rest in
+      let systems : List RowSystem = own_place_systems w rest x place in
+      let after_told : AreRefuted (map (with_rows c) orders ++ between) first.back =
+      subst (λ ss. AreRefuted (ss ++ between) first.back) (after_is r u c place) first.of_second in
+      let two = added systems between (converted first.of_first) after_told in
+      let before : List RowSystem = systems ++ after_systems r own u place in
+      let both : AreRefuted before middle =
+      subst (λ ss. AreRefuted (systems ++ ss) middle) (sym (after_is r u own place)) two.0 in
+      let all : AreRefuted (before ++ flat_map (write_systems (occurrence_of w.read) every own (orders_behind u place c))
+      (array_writes w.nest.now (occurrence_of w.read))) proofs
+      = all_written w (here + length w.cuts.now) rest (orders_behind u place c) left proofs before h below
+      (written before both) two.1 in
+      record {
+        write = u;
+        named = subst (λ (n : Nest). named_write n (occurrence_of w.read) number ≡ Some u) of.nest
+            (subst (λ (r : Occurrence). named_write s.nest.now r number ≡ Some u) of.read
+            (ap (named_write s.nest.now r) (sym named) ∙ of.strided.strided.write));
+        deep = deep;
+        refuted = subst (λ (rr : Occurrence). AreRefuted (outside_systems own u place
+            ++ (cell_systems rr own u place ++ (after_systems rr own u place
+            ++ flat_map (write_systems (occurrence_of w.read) every own (orders_behind u place c))
+            (array_writes w.nest.now (occurrence_of w.read))))) proofs) of.read
+            (subst (λ xs. AreRefuted xs proofs)
+            (apart (outside_systems own u place) (cell_systems r own u place) (after_systems r own u place)
+            (flat_map (write_systems (occurrence_of w.read) every own (orders_behind u place c))
+            (array_writes w.nest.now (occurrence_of w.read)))) all);
+      } where
+        apart : (a b d e : List RowSystem) → ((a ++ b) ++ d) ++ e ≡ a ++ (b ++ (d ++ e))
+        apart a b d e = append_assoc (a ++ b) d e ∙ append_assoc a b (d ++ e)

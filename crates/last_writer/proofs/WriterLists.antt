@@ -2,30 +2,29 @@
 --
 -- The tests only grow, each at the end, so the places of the writers before stay right. A writer adds at most one test
 -- for each of its subscripts with a stride, so there are no more tests than such subscripts of the writes so far.
-use Rattle.std.proofs.Common.{◌≡◌, ◌+◌, ◌≤◌, ◌<◌, ℕ, zero, suc, pos, List, [], ◌∷◌, ◌++◌, length, map, Bool, true, false}
+use Rattle.std.proofs.Common.{◌≡◌, ◌+◌, ◌≤◌, ℕ, zero, suc, List, [], ◌∷◌, ◌++◌, length, map, Bool, true, false}
 use Rattle.std.proofs.Common.{cond, refl, sym, ap, ◌∙◌, subst, arith, length-append}
-use Rattle.std.specs.Prelude.{All, Contains, slice_get, unsigned_abs, ◌≤ℤ◌}
+use Rattle.std.specs.Prelude.{All, Contains, slice_get}
 use Rattle.std.specs.List.{AllZip, filter}
-use Rattle.std.proofs.lemmas.Int.{ints}
 use Rattle.std.proofs.lemmas.List.{append-nil, append_assoc, map-append}
 use Rattle.std.proofs.lemmas.List.Elements.{All-append, All-cons, All-contains, All-nil, All-weaker, filter-append}
 use Rattle.std.proofs.lemmas.List.Sums.{sum_by_push}
 use Rattle.last_writer.specs.Leaves.{HasWriter, IsRefusalAmong}
 use Rattle.last_writer.specs.Writers.{no_place, stands_before, AddsPlaces, AddsTests, AreWriters, IsPlaceBy, IsPlaceOf}
-use Rattle.last_writer.specs.Writers.{IsSmallTest, IsTestAt, IsWriterOf}
+use Rattle.last_writer.specs.Writers.{IsTestAt, IsWriterOf}
 use Rattle.last_writer.specs.declared.leaves.Refusal.{Refusal}
 use Rattle.last_writer.specs.declared.writers.Writer.{Writer}
 use Rattle.plain_data.proofs.Lists.{slice_get-append_some}
 use Rattle.sanlp.specs.declared.nest.Nest.{Nest}
 use Rattle.source_tree.specs.Systems.{Occurrence}
 use Rattle.stride_rows.specs.Class.{stride_count}
+use Rattle.stride_trees.specs.Answers.{IsSmallTest}
 use Rattle.stride_trees.specs.Divisions.{never_divides}
 use Rattle.stride_trees.specs.Strides.{depth_of_read, tests_of, write_of, IsStrided, IsTestOf}
 use Rattle.stride_trees.specs.declared.divisions.Division.{Division}
 use Rattle.stride_trees.specs.declared.strides.Strides.{Strides}
 use Rattle.stride_trees.proofs.TestCounts.{tests_are, tests_count}
-use Rattle.stride_trees.proofs.Systems.{IsStrideOf, IsTestForm}
-use Rattle.stride_trees.proofs.TestNodes.{divisor_is, form_small, of_stride}
+use Rattle.stride_trees.proofs.TestNodes.{small_test}
 
 -- Tests
 
@@ -110,20 +109,6 @@ places_more d ds middle tests place old next new adds at e rest = record {
 }
 
 -- The tests of a write are small, and few
-
-pub small_test : (s : Strides) (d : Division) → IsStrided s → IsTestOf s d → IsSmallTest (depth_of_read s) d
-small_test s d strided test =
-    let form : IsTestForm (depth_of_read s) d.form = form_small s d strided test in
-    let stride : IsStrideOf test.stride = of_stride s d strided test in
-    let divisor : d.divisor ≡ pos (unsigned_abs test.stride) = divisor_is s d strided test in
-    record {
-      over = form.over;
-      within = form.within;
-      divisor = subst (λ z. pos 2 ≤ℤ z) (sym divisor) (two_below (unsigned_abs test.stride) stride.at_least);
-      small = omega (arith, ap unsigned_abs divisor, stride.small);
-    } where
-      two_below : (m : ℕ) → 1 < m → pos 2 ≤ℤ pos m
-      two_below m lt = omega (arith, ints, lt)
 
 pub small_tests : (s : Strides) → IsStrided s → All (IsSmallTest (depth_of_read s)) (tests_of s)
 small_tests s strided =

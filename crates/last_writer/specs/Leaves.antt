@@ -1,6 +1,6 @@
 -- Leaves below tests of divisibility: the writes that are joined there, and proofs for the writes of all writers.
 use Rattle.std.specs.Prelude.{◌≡◌, ◌≤◌, ◌<◌, ◌+◌, ◌*◌, ◌^◌, ◌==◌, ℕ, Bool, true, false, Contains, slice_get, List, [], ◌∷◌, ◌++◌, map, length, nat_lt, All, Option, Some, None, slice_index_or, if◌then◌else◌}
-use Rattle.std.specs.List.{filter, list_all, range_with_len}
+use Rattle.std.specs.List.{AllZip, filter, flat_map, list_all, range_with_len}
 use Rattle.affine_core.specs.declared.form.Form.{Form}
 use Rattle.candidate_order.specs.Candidates.{levels_before}
 use Rattle.difference_graphs.specs.Joint.{place_systems, IsCheckedForAll, IsSum}
@@ -14,17 +14,17 @@ use Rattle.last_writer.specs.declared.writers.Writer.{Writer}
 use Rattle.difference_graphs.specs.Level.{common_of}
 use Rattle.source_tree.specs.declared.reference.Reference.{Reference}
 use Rattle.row_sums.specs.Parts.{IsWithin}
-use Rattle.source_tree.specs.Checked.{AreRefuted, HaveVariables, IsCheckedIn}
-use Rattle.source_tree.specs.Places.{before_rows}
+use Rattle.source_tree.specs.Checked.{AreRefuted, HaveVariables, IsCheckedIn, IsRefuted}
+use Rattle.source_tree.specs.Places.{before_rows, same_rows}
 use Rattle.source_tree.specs.Rows.{RowExpr, RowSystem}
-use Rattle.source_tree.specs.Systems.{Context, Occurrence, array_writes, every, more_rows, named_write, root_context, write_systems, writer_place, writer_systems}
+use Rattle.source_tree.specs.Systems.{Context, Occurrence, array_writes, every, more_rows, named_write, reader_place, root_context, write_systems, writer_place, writer_systems}
 use Rattle.source_tree.specs.declared.tree.Tree.{Tree}
 use Rattle.source_tree.specs.References.{occurrence_of}
 use Rattle.tree_facts.specs.Facts.{fact_rows, AddFacts}
-use Rattle.stride_trees.specs.Contexts.{AreMadeSmall, IsPlaceIn, IsUndividedContext}
+use Rattle.stride_trees.specs.Contexts.{outside_cell_systems, own_system, told_system, AreMadeSmall, IsPlaceIn, IsUndividedContext}
 use Rattle.stride_trees.specs.Divisions.{never_divides}
 use Rattle.stride_trees.specs.Problem.{told_read, told_write}
-use Rattle.stride_trees.specs.Strides.{depth_of_read, depth_of_write, read_of, write_of, IsSmallContext, IsStrided, IsTestOf}
+use Rattle.stride_trees.specs.Strides.{depth_of_read, depth_of_write, read_of, write_of, IsSmallContext, IsTestOf}
 use Rattle.stride_trees.specs.declared.divisions.Division.{Division}
 use Rattle.stride_trees.specs.declared.strides.Strides.{Strides}
 
@@ -82,13 +82,36 @@ HasFacts w = AddFacts (context_of w) w.cuts.now w.facts.now
 abbrev pub fact_context : Answered → List RowExpr → Context
 fact_context w rest = more_rows (context_of w) (fact_rows w.facts.now rest)
 
+-- the same without the facts
+abbrev pub own_context : Answered → List RowExpr → Context
+own_context w rest = more_rows (context_of w) rest
+
 -- Where a tree is checked for the writes that are joined, in a context with the facts, the other is checked for all
 -- writes in the context without them.
 abbrev pub Converts : Answered → ℕ → Tree → Tree → Type 0
 Converts w here tree own =
     (rest : List RowExpr) → IsBelow w here (fact_context w rest)
     → IsCheckedForAll (pairs_of w) (fact_context w rest) tree
-    → IsCheckedIn w.nest.now (occurrence_of w.read) every (more_rows (context_of w) rest) own
+    → IsCheckedIn w.nest.now (occurrence_of w.read) every (own_context w rest) own
+
+-- the answers and the facts of a leaf whose context has so many rows without the facts
+pub record IsLeafBelow (w : Answered) (here : ℕ) : Type 0 where
+  pub answered : IsAnswered w
+  pub facts : HasFacts w
+  pub few : here + length w.cuts.now ≤ 2 ^ 30
+
+-- its context with the facts has these rows behind them
+abbrev pub IsAtLeaf : Answered → ℕ → List RowExpr → Type 0
+IsAtLeaf w here rest = IsBelow w (here + length w.cuts.now) (fact_context w rest)
+
+-- A proof of a system that has so many rows behind those of the leaf's context became one of the system without the
+-- facts.
+abbrev pub IsWithoutFacts : Answered → ℕ → ℕ → Proof → Proof → Type 0
+IsWithoutFacts w here count proof own =
+    (rest more : List RowExpr) (vars : ℕ) → IsAtLeaf w here rest → (context_of w).vars ≤ vars
+    → length more ≡ count
+    → IsRefuted (record { vars = vars; rows = (fact_context w rest).rows ++ more }) proof
+    → IsRefuted (record { vars = vars; rows = (own_context w rest).rows ++ more }) own
 
 -- the tree is checked for the writes that are joined, in a context with the facts
 pub record IsJoinedBelow (w : Answered) (here : ℕ) (tree : Tree) : Type 0 where
@@ -118,11 +141,13 @@ abbrev pub counts_behind : Option Reference → Occurrence → List ℕ
 counts_behind None u = 0 ∷ []
 counts_behind (Some of) u = order_counts (occurrence_of of) u
 
--- order rows in a context for a writer's point, so many each, with small numbers
-pub record AreOrderRows (s : Strides) (c : Context) (counts : List ℕ) (rows : List (List RowExpr))
-    : Type 0 where
-  pub counted : map length rows ≡ counts
-  pub made : All (AreMadeSmall (c.vars + depth_of_write s)) rows
+-- order rows over so many variables, so many, with small numbers
+abbrev pub AreOrderRows : ℕ → ℕ → List RowExpr → Type 0
+AreOrderRows vars count rows = (length rows ≡ count) × AreMadeSmall vars rows
+
+-- such for each of these counts
+abbrev pub HaveOrderRows : ℕ → List ℕ → List (List RowExpr) → Type 0
+HaveOrderRows vars counts orders = AllZip (AreOrderRows vars) counts orders
 
 -- what stands behind the rows of a write before the read: nothing, or order rows of a place before it
 abbrev pub IsFurther : Option Reference → Context → (Occurrence → List (List RowExpr)) → Type 0
@@ -142,6 +167,62 @@ abbrev pub told_systems : List Bool → Context → (Occurrence → List (List R
 told_systems answers c further w =
     if is_told answers w
     then write_systems (told_pair c.vars w).read every c further (told_pair c.vars w).write else []
+
+-- how many rows a domain and a cell have
+abbrev pub cell_count : Occurrence → ℕ
+cell_count u = length u.statement.rows + 2 * length u.access.subscripts
+
+-- how many variables the systems of a writer's write have
+abbrev pub point_vars : Answered → Writer → ℕ
+point_vars w x = (context_of w).vars + depth_of_write x.strides
+
+-- the system of a writer's write with these order rows: over quotients, where its tests all say yes, with the facts
+abbrev pub told_order : Answered → List RowExpr → Writer → List RowExpr → List RowSystem
+told_order w rest x order =
+    if is_told w.answers.now x
+    then told_system x.strides x.places (fact_context w rest) order ∷ [] else []
+
+-- and as it stands in the nest, without the facts
+abbrev pub own_order : Answered → List RowExpr → Writer → List RowExpr → RowSystem
+own_order w rest x order = own_system x.strides (own_context w rest) order
+
+-- these orders behind each level
+abbrev pub all_orders : List (List RowExpr) → List (List RowExpr) → List (List RowExpr)
+all_orders behind levels = flat_map (λ level. map (λ rows. level ++ rows) behind) levels
+
+-- proofs were added for each of these orders of a writer's write
+abbrev pub AddsOrders : Answered → List RowExpr → Writer → List (List RowExpr) → List Proof
+    → List Proof → List Proof → List Proof → Type 0
+AddsOrders w rest x orders told left old new =
+    AddsProofs (flat_map (told_order w rest x) orders) (map (own_order w rest x) orders)
+    told left old new
+
+-- that a place is in the domain and writes the read's cell: over quotients with the facts, and as it stands in the
+-- nest without them
+abbrev pub told_place_systems : Answered → List RowExpr → Writer → List Form → List RowSystem
+told_place_systems w rest x place =
+    let c = fact_context w rest in
+    outside_cell_systems (told_pair c.vars x).read (told_pair c.vars x).write c place
+
+abbrev pub own_place_systems : Answered → List RowExpr → Writer → List Form → List RowSystem
+own_place_systems w rest x place =
+    outside_cell_systems (read_of x.strides) (write_of x.strides) (own_context w rest) place
+
+-- the order rows of the reader before a place of a write, and, where the write is the reader's, those that it is there
+abbrev pub after_orders : Occurrence → Occurrence → List Form → List (List RowExpr)
+after_orders r u place =
+    before_rows r.number r.statement (reader_place r) u.number u.statement place
+    ++ (if u.number == r.number then same_rows (reader_place r) place ∷ [] else [])
+
+-- such orders have so many rows
+abbrev pub HaveRows : List ℕ → List (List RowExpr) → Type 0
+HaveRows counts orders = AllZip (λ count order. length order ≡ count) counts orders
+
+-- how many rows each of them has
+abbrev pub after_counts : Occurrence → Occurrence → List ℕ
+after_counts r u =
+    order_counts r u
+    ++ (if u.number == r.number then (2 * length r.statement.loops) ∷ [] else [])
 
 -- a test that says no among these, which stand at these places
 pub record IsRefusalAmong (answers : List Bool) (divisions : List Division) (places : List ℕ)
@@ -170,20 +251,10 @@ pub record IsRefusedContext (s : Strides) (refusal : Refusal) (here : ℕ) (c : 
   pub asked : refusal.place < no_place
       → IsUndividedContext s refusal.division.now refusal.place here c
 
--- proofs for its writes can be converted in a context of so many rows
-pub record CanBeConverted (w : Writer) (here : ℕ) : Type 0 where
-  pub strided : IsStrided w.strides
-  pub places : All (λ place. place < 6) w.places
-  pub few : here ≤ 2 ^ 30
-
 -- one of the writers has this number
 abbrev pub HasWriter : List Writer → ℕ → Type 0
 HasWriter writers number =
     (w : Writer) × Contains writers w × (w.strides.write.number ≡ number)
-
--- how many systems say that a write is not before the read
-abbrev pub after_systems_count : Occurrence → Occurrence → ℕ
-after_systems_count r w = levels_before r w + (if w.number == r.number then 1 else 0)
 
 -- the proofs are those of a joined Writer leaf for the write of this number, in this context
 pub record IsJoinedPoint (w : Answered) (c : Context) (number : ℕ) (place : List Form)

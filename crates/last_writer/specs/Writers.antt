@@ -1,23 +1,16 @@
 -- The writers of a read's array, and their tests of divisibility, each once.
-use Rattle.std.specs.Prelude.{◌≡◌, ◌≤◌, ◌==◌, ◌^◌, ◌≤ℤ◌, ℕ, pos, Bool, true, false, List, ◌++◌, map, length, nat_lt, All, Some, Contains, slice_get, unsigned_abs}
+use Rattle.std.specs.Prelude.{◌≡◌, ◌≤◌, ◌==◌, ℕ, Bool, true, false, List, ◌++◌, map, length, nat_lt, All, Some, Contains, slice_get}
 use Rattle.std.specs.List.{AllZip, filter, list_any, sum_by}
 use Rattle.candidate_order.specs.Candidates.{levels_before}
 use Rattle.last_writer.specs.declared.writers.Writer.{Writer}
 use Rattle.source_tree.specs.declared.reference.Reference.{Reference}
-use Rattle.row_sums.specs.Parts.{IsWithin}
 use Rattle.sanlp.specs.declared.nest.Nest.{Nest}
 use Rattle.source_tree.specs.Systems.{Occurrence}
 use Rattle.stride_rows.specs.Class.{stride_count}
+use Rattle.stride_trees.specs.Answers.{IsSmallTest}
 use Rattle.stride_trees.specs.Divisions.{never_divides}
 use Rattle.stride_trees.specs.Strides.{read_of, tests_of, write_of, IsStrided}
 use Rattle.stride_trees.specs.declared.divisions.Division.{Division}
-
--- a test over so many loops of a reader: its numbers are small, and its divisor is at least 2
-pub record IsSmallTest (depth : ℕ) (d : Division) : Type 0 where
-  pub over : length d.form.coefs ≡ depth
-  pub within : IsWithin (2 ^ 33) d.form
-  pub divisor : pos 2 ≤ℤ d.divisor
-  pub small : unsigned_abs d.divisor ≤ 2 ^ 32
 
 -- the test at this place has the form and the divisor of this one
 pub record IsTestAt (tests : List Division) (d : Division) (place : ℕ) : Type 0 where

@@ -3,20 +3,20 @@ ghost use Rattle.std.specs.List.{flat_map, list_all, range_with_len};
 ghost use Rattle.affine_core.specs.declared.form.Form.{Form as FormOf};
 ghost use Rattle.difference_graphs.specs.Heights.{height_of};
 ghost use Rattle.difference_graphs.specs.Joint.{no_orders, write_systems_of, IsSum};
+ghost use Rattle.int_polyhedra.specs.declared.system.Proof.{Proof as ProofOf};
 ghost use Rattle.int_polyhedra.specs.declared.system.Proof.TheVariants.{Sum};
-ghost use Rattle.last_writer.specs.Leaves.{after_systems_count, answer_at as answer_of, counts_behind as behind_counts, is_told, level_count_of, order_counts, own_systems, pairs_of, told_systems, AddsProofs, context_of, fact_context, AreOrderRows, CanBeConverted, Converts, HasFacts, HasWriter, IsAnswered, IsBelow, IsFurther, IsJoinedBelow, IsJoinedPoint, IsOwnPoint, IsRefusal, IsRefusalAmong, IsRefusedContext};
+ghost use Rattle.last_writer.specs.Leaves.{after_counts as counts_after, all_orders, answer_at as answer_of, cell_count as cells_of, counts_behind as behind_counts, fact_context, is_told, level_count_of, order_counts, own_context, own_place_systems, own_systems, pairs_of, point_vars, told_place_systems, told_systems, AddsOrders, AddsProofs, AreOrderRows, Converts, HasWriter, HaveOrderRows, HaveRows, IsAnswered, IsAtLeaf, IsFurther, IsJoinedBelow, IsJoinedPoint, IsLeafBelow, IsOwnPoint, IsRefusal, IsRefusalAmong, IsRefusedContext, IsWithoutFacts};
 ghost use Rattle.last_writer.specs.Converted.{turns_left, IsConverting};
 ghost use Rattle.last_writer.specs.Writers.{IsWriterOf};
 ghost use Rattle.source_tree.specs.Checked.{AreRefuted, IsRefuted};
 ghost use Rattle.source_tree.specs.Rows.{RowExpr, RowSystem};
 ghost use Rattle.source_tree.specs.declared.tree.Tree.{Tree as TreeOf};
 ghost use Rattle.source_tree.specs.declared.tree.Tree.TheViews.{Test as TestOf};
-ghost use Rattle.source_tree.specs.Systems.{dead_systems, more_rows, zero_systems, every, Context, Occurrence};
-ghost use Rattle.stride_trees.specs.Contexts.{own_system, told_system, AreMadeSmall, IsTestedContext};
-ghost use Rattle.stride_trees.specs.Strides.{depth_of_write, IsStrided};
+ghost use Rattle.source_tree.specs.Systems.{with_rows, zero_systems, every, Context, Occurrence};
+ghost use Rattle.stride_trees.specs.Contexts.{own_system, AreMadeSmall, IsPlaceIn};
+ghost use Rattle.stride_trees.specs.Strides.{depth_of_write, write_of, IsStrided};
 ghost use Rattle.source_tree.specs.References.{occurrence_of};
 
-use crate::counts::{writer_counts, zero_counts};
 use crate::writers::{NO_PLACE, Writer};
 use affine_core::{Form, Row};
 use candidate_order::level_count;
@@ -112,8 +112,8 @@ fn push_counts(
     push_counts(counts, common, level + 1, more - 1)
 }
 
-/// Per level of order of the first statement before the second: how many rows it has.
-pub fn row_counts(
+// Per level of order of the first statement before the second: how many rows it has.
+fn row_counts(
     alloc: Global,
     first: &Reference,
     second: &Reference,
@@ -129,8 +129,8 @@ pub fn row_counts(
     Ok(counts)
 }
 
-/// The same behind a place of a writer, and without one no rows once.
-pub fn counts_behind(
+// The same behind a place of a writer, and without one no rows once.
+fn counts_behind(
     alloc: Global,
     behind: &Option<Reference>,
     write: &Reference,
@@ -146,71 +146,6 @@ pub fn counts_behind(
             Ok(counts)
         }
     }
-}
-
-// Adds the proofs for a write over quotients, for each of these numbers of order rows behind so many. Gives the proofs
-// that are left.
-fn push_orders<'t>(
-    proofs: &mut Items<Proof>,
-    writer: &Writer,
-    here: u32,
-    before: u32,
-    orders: &[u32],
-    told: &'t [Proof],
-) -> Result<&'t [Proof], AllocError>
-    requires writer { CanBeConverted writer.now here }
-    requires counts { All (λ order. before + order ≤ 64) orders.now }
-    requires sums { All IsSum told.now }
-    ensures proofs { IfOk result (λ rest. (c : Context) (level : List RowExpr)
-        (rows : List (List RowExpr)) → IsTestedContext writer.now.strides writer.now.places here c
-        → AreOrderRows writer.now.strides c (before ∷ []) (level ∷ [])
-        → AreOrderRows writer.now.strides c orders.now rows
-        → AddsProofs
-        (map (λ q. told_system writer.now.strides writer.now.places c (level ++ q)) rows)
-        (map (λ q. own_system writer.now.strides c (level ++ q)) rows)
-        told.now rest.now proofs.old proofs.new) }
-    ensures sums { IfOk result (λ rest. All IsSum rest.now) }
-{
-    let Some((order, orders)) = orders.split_first() else {
-        return Ok(told);
-    };
-    let Some((proof, told)) = told.split_first() else {
-        return Ok(told);
-    };
-    let places = writer.places.as_slice();
-    proofs.push(converted_write(&writer.strides, places, here, before + *order, proof)?)?;
-    push_orders(proofs, writer, here, before, orders, told)
-}
-
-// The same at each level before the read.
-fn push_levels<'t>(
-    proofs: &mut Items<Proof>,
-    writer: &Writer,
-    here: u32,
-    levels: &[u32],
-    orders: &[u32],
-    told: &'t [Proof],
-) -> Result<&'t [Proof], AllocError>
-    requires writer { CanBeConverted writer.now here }
-    requires levels { All (λ level. level ≤ 32) levels.now }
-    requires orders { All (λ order. order ≤ 32) orders.now }
-    requires sums { All IsSum told.now }
-    ensures proofs { IfOk result (λ rest. (c : Context) (at rows : List (List RowExpr))
-        → IsTestedContext writer.now.strides writer.now.places here c
-        → AreOrderRows writer.now.strides c levels.now at
-        → AreOrderRows writer.now.strides c orders.now rows
-        → AddsProofs
-        (flat_map (λ p. map
-        (λ q. told_system writer.now.strides writer.now.places c (p ++ q)) rows) at)
-        (flat_map (λ p. map (λ q. own_system writer.now.strides c (p ++ q)) rows) at)
-        told.now rest.now proofs.old proofs.new) }
-    ensures sums { IfOk result (λ rest. All IsSum rest.now) }
-{
-    let Some((level, levels)) = levels.split_first() else {
-        return Ok(told);
-    };
-    let told = push_orders(proofs, writer, here, *level, orders, told)?;
-    push_levels(proofs, writer, here, levels, orders, told)
 }
 
 // The proof for a write of which this test says no.
@@ -231,58 +166,172 @@ fn refused_write(s: &Strides, test: &Refusal, here: u32, more: u32) -> Result<Pr
     }
 }
 
-// Adds the proofs for a write of which this test says no, for each of these numbers of order rows behind so many.
-fn push_undivided_orders(
-    proofs: &mut Items<Proof>,
-    s: &Strides,
-    test: &Refusal,
-    here: u32,
-    before: u32,
-    orders: &[u32],
-) -> Result<(), AllocError>
-    requires strided { IsStrided s.now }
-    requires test { IsRefusal s.now test.now }
-    requires here { here ≤ 2 ^ 30 }
-    requires counts { All (λ order. before + order ≤ 64) orders.now }
-    ensures { OnOk result ((c : Context) (level : List RowExpr) (rows : List (List RowExpr))
-        → IsRefusedContext s.now test.now here c
-        → AreOrderRows s.now c (before ∷ []) (level ∷ []) → AreOrderRows s.now c orders.now rows
-        → (systems : List RowSystem) → AreRefuted systems proofs.old
-        → AreRefuted (systems ++ map (λ q. own_system s.now c (level ++ q)) rows) proofs.new) }
+// How many rows the context has above those of the facts.
+fn rows_above(w: &Answered) -> u32
+    requires rows { length w.now.read.statement.now.rows ≤ 32 }
+    requires answers { length w.now.answers.now ≤ 6 }
+    ensures { result
+        ≡ length w.now.read.statement.now.rows + 2 * length w.now.answers.now }
 {
-    let Some((order, orders)) = orders.split_first() else {
-        return Ok(());
-    };
-    proofs.push(refused_write(s, test, here, before + *order)?)?;
-    push_undivided_orders(proofs, s, test, here, before, orders)
+    w.read.statement.rows.len() as u32 + 2 * w.answers.len() as u32
 }
 
-// The same at each level before the read.
-fn push_undivided_levels(
+// How many rows a context has with the facts, where it has so many without them.
+fn rows_with(w: &Answered, here: u32) -> u32
+    requires { here + length w.now.cuts.now < 2 ^ 32 }
+    ensures { result ≡ here + length w.now.cuts.now }
+{
+    here + w.cuts.len() as u32
+}
+
+// How many rows a context has without the facts, where it has so many with them.
+fn rows_without(w: &Answered, here: u32) -> u32
+    requires { length w.now.cuts.now ≤ here }
+    ensures { result + length w.now.cuts.now ≡ here }
+{
+    here - w.cuts.len() as u32
+}
+
+// The proof of a system that has so many rows behind those of a leaf's context, as one of the system without the facts. The
+// context has `here` rows without them.
+fn without_facts(w: &Answered, here: u32, more: u32, proof: Proof) -> Result<Proof, AllocError>
+    requires leaf { IsLeafBelow w.now here }
+    requires more { more ≤ 128 }
+    ensures { IfOk result (IsWithoutFacts w.now here more proof) }
+{
+    let above = rows_above(w);
+    let rows = here + more;
+    proof_by_cuts(w.alloc, w.cuts, above, rows, proof)
+}
+
+// Adds it.
+fn push_own(
     proofs: &mut Items<Proof>,
-    s: &Strides,
-    test: &Refusal,
+    w: &Answered,
     here: u32,
+    more: u32,
+    proof: Proof,
+) -> Result<(), AllocError>
+    requires leaf { IsLeafBelow w.now here }
+    requires more { more ≤ 128 }
+    ensures { OnOk result ((own : ProofOf) × (proofs.new ≡ proofs.old ++ own ∷ [])
+        × IsWithoutFacts w.now here more proof own) }
+{
+    let own = without_facts(w, here, more, proof)?;
+    proofs.push(own)
+}
+
+// How many rows a domain and a cell have.
+fn cell_count(write: &Reference) -> u32
+    requires rows { length write.now.statement.now.rows ≤ 32 }
+    requires subscripts { length write.now.access.now.subscripts ≤ 6 }
+    ensures { result ≡ cells_of (occurrence_of write.now) }
+{
+    let rows = write.statement.rows.len();
+    let subscripts = write.access.subscripts.len();
+    (rows + 2 * subscripts) as u32
+}
+
+// Adds the proof for a writer's write before the read with so many order rows: made from the first of the proofs over
+// quotients, where all its tests say yes. Gives those that are left.
+fn push_order<'t>(
+    proofs: &mut Items<Proof>,
+    w: &Answered,
+    here: u32,
+    writer: &Writer,
+    order: u32,
+    told: &'t [Proof],
+) -> Result<&'t [Proof], AllocError>
+    requires writer { IsWriterOf w.now.nest.now (occurrence_of w.now.read) w.now.tests.now
+        writer.now }
+    requires leaf { IsLeafBelow w.now here }
+    requires order { order ≤ 64 }
+    requires sums { All IsSum told.now }
+    ensures proofs { IfOk result (λ left. (rest rows : List RowExpr) → IsAtLeaf w.now here rest
+        → AreOrderRows (point_vars w.now writer.now) order rows
+        → AddsOrders w.now rest writer.now (rows ∷ []) told.now left.now proofs.old proofs.new) }
+    ensures sums { IfOk result (λ left. All IsSum left.now) }
+{
+    let s = &writer.strides;
+    let rows = rows_with(w, here);
+    let cells = cell_count(&s.write);
+    let more = cells + order;
+    match refusal_of(writer, w.answers) {
+        Some(test) => {
+            let made = refused_write(s, &test, rows, order)?;
+            push_own(proofs, w, here, more, made)?;
+            Ok(told)
+        }
+        None => {
+            let Some((proof, told)) = told.split_first() else {
+                return Ok(told);
+            };
+            let places = writer.places.as_slice();
+            let made = converted_write(s, places, rows, order, proof)?;
+            push_own(proofs, w, here, more, made)?;
+            Ok(told)
+        }
+    }
+}
+
+// The same for each of these numbers of order rows behind so many.
+fn push_orders<'t>(
+    proofs: &mut Items<Proof>,
+    w: &Answered,
+    here: u32,
+    writer: &Writer,
+    before: u32,
+    orders: &[u32],
+    told: &'t [Proof],
+) -> Result<&'t [Proof], AllocError>
+    requires writer { IsWriterOf w.now.nest.now (occurrence_of w.now.read) w.now.tests.now
+        writer.now }
+    requires leaf { IsLeafBelow w.now here }
+    requires orders { All (λ order. before + order ≤ 64) orders.now }
+    requires sums { All IsSum told.now }
+    ensures proofs { IfOk result (λ left. (rest level : List RowExpr)
+        (behind : List (List RowExpr)) → IsAtLeaf w.now here rest
+        → AreOrderRows (point_vars w.now writer.now) before level
+        → HaveOrderRows (point_vars w.now writer.now) orders.now behind
+        → AddsOrders w.now rest writer.now (map (λ rows. level ++ rows) behind)
+        told.now left.now proofs.old proofs.new) }
+    ensures sums { IfOk result (λ left. All IsSum left.now) }
+{
+    let Some((order, orders)) = orders.split_first() else {
+        return Ok(told);
+    };
+    let told = push_order(proofs, w, here, writer, before + *order, told)?;
+    push_orders(proofs, w, here, writer, before, orders, told)
+}
+
+// The same behind each of these numbers of rows of a level before the read.
+fn push_levels<'t>(
+    proofs: &mut Items<Proof>,
+    w: &Answered,
+    here: u32,
+    writer: &Writer,
     levels: &[u32],
     orders: &[u32],
-) -> Result<(), AllocError>
-    requires strided { IsStrided s.now }
-    requires test { IsRefusal s.now test.now }
-    requires here { here ≤ 2 ^ 30 }
+    told: &'t [Proof],
+) -> Result<&'t [Proof], AllocError>
+    requires writer { IsWriterOf w.now.nest.now (occurrence_of w.now.read) w.now.tests.now
+        writer.now }
+    requires leaf { IsLeafBelow w.now here }
     requires levels { All (λ level. level ≤ 32) levels.now }
     requires orders { All (λ order. order ≤ 32) orders.now }
-    ensures { OnOk result ((c : Context) (at rows : List (List RowExpr))
-        → IsRefusedContext s.now test.now here c
-        → AreOrderRows s.now c levels.now at → AreOrderRows s.now c orders.now rows
-        → (systems : List RowSystem) → AreRefuted systems proofs.old
-        → AreRefuted (systems ++ flat_map (λ p. map (λ q. own_system s.now c (p ++ q)) rows) at)
-        proofs.new) }
+    requires sums { All IsSum told.now }
+    ensures proofs { IfOk result (λ left. (rest : List RowExpr) (at behind : List (List RowExpr))
+        → IsAtLeaf w.now here rest → HaveOrderRows (point_vars w.now writer.now) levels.now at
+        → HaveOrderRows (point_vars w.now writer.now) orders.now behind
+        → AddsOrders w.now rest writer.now (all_orders behind at)
+        told.now left.now proofs.old proofs.new) }
+    ensures sums { IfOk result (λ left. All IsSum left.now) }
 {
     let Some((level, levels)) = levels.split_first() else {
-        return Ok(());
+        return Ok(told);
     };
-    push_undivided_orders(proofs, s, test, here, *level, orders)?;
-    push_undivided_levels(proofs, s, test, here, levels, orders)
+    let told = push_orders(proofs, w, here, writer, *level, orders, told)?;
+    push_levels(proofs, w, here, writer, levels, orders, told)
 }
 
 // Adds the proofs for the writes of one writer before the read. Gives those that are left of the proofs over quotients.
@@ -296,27 +345,23 @@ fn push_writer<'t>(
 ) -> Result<&'t [Proof], AllocError>
     requires writer { IsWriterOf w.now.nest.now (occurrence_of w.now.read) w.now.tests.now
         writer.now }
-    requires answered { IsAnswered w.now }
-    requires here { here ≤ 2 ^ 30 }
+    requires leaf { IsLeafBelow w.now here }
     requires behind { IfSome behind.now (λ of. length of.statement.now.loops ≤ 6) }
     requires sums { All IsSum told.now }
-    ensures proofs { IfOk result (λ rest. (c : Context) (further : Occurrence → List (List RowExpr))
-        → IsBelow w.now here c → IsFurther behind.now c further
-        → AddsProofs (told_systems w.now.answers.now c further writer.now)
-        (own_systems c further writer.now) told.now rest.now proofs.old proofs.new) }
-    ensures sums { IfOk result (λ rest. All IsSum rest.now) }
+    ensures proofs { IfOk result (λ left. (rest : List RowExpr)
+        (further : Occurrence → List (List RowExpr)) → IsAtLeaf w.now here rest
+        → IsFurther behind.now (fact_context w.now rest) further
+        → AddsProofs
+        (told_systems w.now.answers.now (fact_context w.now rest) further writer.now)
+        (own_systems (own_context w.now rest) further writer.now)
+        told.now left.now proofs.old proofs.new) }
+    ensures sums { IfOk result (λ left. All IsSum left.now) }
 {
     let write = &writer.strides.write;
     let levels = row_counts(w.alloc, write, &w.read)?;
     let orders = counts_behind(w.alloc, behind, write)?;
     let (levels, orders) = (levels.as_slice(), orders.as_slice());
-    match refusal_of(writer, w.answers) {
-        Some(test) => {
-            push_undivided_levels(proofs, &writer.strides, &test, here, levels, orders)?;
-            Ok(told)
-        }
-        None => push_levels(proofs, writer, here, levels, orders, told),
-    }
+    push_levels(proofs, w, here, writer, levels, orders, told)
 }
 
 // Adds the proofs for the writes of these writers before the read.
@@ -330,15 +375,17 @@ fn push_writers(
 ) -> Result<(), AllocError>
     requires writers { All (IsWriterOf w.now.nest.now (occurrence_of w.now.read) w.now.tests.now)
         writers.now }
-    requires answered { IsAnswered w.now }
-    requires here { here ≤ 2 ^ 30 }
+    requires leaf { IsLeafBelow w.now here }
     requires behind { IfSome behind.now (λ of. length of.statement.now.loops ≤ 6) }
     requires sums { All IsSum told.now }
-    ensures { OnOk result ((c : Context) (further : Occurrence → List (List RowExpr))
-        (systems : List RowSystem) → IsBelow w.now here c → IsFurther behind.now c further
+    ensures { OnOk result ((rest : List RowExpr) (further : Occurrence → List (List RowExpr))
+        (systems : List RowSystem) → IsAtLeaf w.now here rest
+        → IsFurther behind.now (fact_context w.now rest) further
         → AreRefuted systems proofs.old
-        → AreRefuted (flat_map (told_systems w.now.answers.now c further) writers.now) told.now
-        → AreRefuted (systems ++ flat_map (own_systems c further) writers.now) proofs.new) }
+        → AreRefuted (flat_map
+        (told_systems w.now.answers.now (fact_context w.now rest) further) writers.now) told.now
+        → AreRefuted (systems ++ flat_map (own_systems (own_context w.now rest) further)
+        writers.now) proofs.new) }
 {
     let Some((writer, writers)) = writers.split_first() else {
         return Ok(());
@@ -358,21 +405,52 @@ fn sum_terms(proof: &Proof) -> &[Term]
     }
 }
 
-// Adds these Sums.
-fn push_sums(proofs: &mut Items<Proof>, sums: &[Proof]) -> Result<(), AllocError>
-    requires { All IsSum sums.now }
-    ensures { OnOk result (proofs.new ≡ proofs.old ++ sums.now) }
+// Adds the first of these Sums, one for each of these numbers of order rows. Gives those that are left.
+fn push_sums<'t>(
+    proofs: &mut Items<Proof>,
+    w: &Answered,
+    here: u32,
+    counts: &[u32],
+    told: &'t [Proof],
+) -> Result<&'t [Proof], AllocError>
+    requires leaf { IsLeafBelow w.now here }
+    requires counts { All (λ count. count ≤ 32) counts.now }
+    requires sums { All IsSum told.now }
+    ensures proofs { IfOk result (λ left. (rest : List RowExpr) (orders : List (List RowExpr))
+        → IsAtLeaf w.now here rest → HaveRows counts.now orders
+        → AddsProofs (map (with_rows (fact_context w.now rest)) orders)
+        (map (with_rows (own_context w.now rest)) orders)
+        told.now left.now proofs.old proofs.new) }
+    ensures sums { IfOk result (λ left. All IsSum left.now) }
 {
-    let Some((proof, sums)) = sums.split_first() else {
-        return Ok(());
+    let Some((count, counts)) = counts.split_first() else {
+        return Ok(told);
     };
-    let terms = Items::from_slice(proofs.allocator(), sum_terms(proof))?;
-    proofs.push(Proof::Sum(terms))?;
-    push_sums(proofs, sums)
+    let Some((proof, told)) = told.split_first() else {
+        return Ok(told);
+    };
+    let terms = Items::from_slice(w.alloc, sum_terms(proof))?;
+    push_own(proofs, w, here, *count, Proof::Sum(terms))?;
+    push_sums(proofs, w, here, counts, told)
 }
 
-/// The writer of this number.
-pub fn writer_at<'a>(writers: &'a [Writer<'a>], number: u32) -> &'a Writer<'a>
+// How many rows there are of each order of the reader before a place of a write, and of that it is there.
+fn after_counts(w: &Answered, write: &Reference) -> Result<Items<u32>, AllocError>
+    requires { length w.now.read.statement.now.loops ≤ 6 }
+    ensures { IfOk result (λ counts. counts
+        ≡ counts_after (occurrence_of w.now.read) (occurrence_of write.now)) }
+{
+    let mut counts = row_counts(w.alloc, &w.read, write)?;
+    if write.number == w.read.number {
+        let loops = w.read.statement.loops.len() as u32;
+        counts.push(2 * loops)?;
+        return Ok(counts);
+    }
+    Ok(counts)
+}
+
+// The writer of this number.
+fn writer_at<'a>(writers: &'a [Writer<'a>], number: u32) -> &'a Writer<'a>
     requires { HasWriter writers.now number }
     ensures among { Contains writers.now result.now }
     ensures number { result.now.strides.write.number ≡ number }
@@ -402,164 +480,73 @@ fn back(proofs: &[Proof], count: usize) -> &[Proof]
     &proofs[count..]
 }
 
-// How many proofs say that a write isn't before the read.
-fn after_count(read: &Reference, write: &Reference) -> usize
-    requires { length read.now.statement.now.loops ≤ 6 }
-    ensures value { result
-        ≡ after_systems_count (occurrence_of read.now) (occurrence_of write.now) }
-    ensures few { result ≤ 8 }
-{
-    let levels = level_count(read, write);
-    if write.number == read.number {
-        levels + 1
-    } else {
-        levels
-    }
-}
-
-// The proofs of a Writer leaf.
-fn writer_proofs(
+// The proofs that a place is in the domain and writes the read's cell, from those over quotients.
+fn place_proofs(
     w: &Answered,
     here: u32,
-    number: u32,
+    writer: &Writer,
     told: &[Proof],
 ) -> Result<Items<Proof>, AllocError>
-    requires answered { IsAnswered w.now }
-    requires here { here ≤ 2 ^ 30 }
-    requires point { (c : Context) × (place : List FormOf) × IsBelow w.now here c
-        × IsJoinedPoint w.now c number place told.now }
-    ensures { IfOk result (λ proofs. (c : Context) (place : List FormOf) → IsBelow w.now here c
-        → IsJoinedPoint w.now c number place told.now → IsOwnPoint w.now c number place proofs) }
-{
-    let writer = writer_at(w.writers, number);
-    let s = &writer.strides;
-    let (rows, subscripts) = (&s.write.statement.rows, &s.write.access.subscripts);
-    let cells = rows.len() + 2 * subscripts.len();
-    let behind = back(told, cells);
-    let after = after_count(&s.read, &s.write);
-    let mut proofs = converted_place(s, writer.places.as_slice(), here, front(told, cells))?;
-    push_sums(&mut proofs, front(behind, after))?;
-    push_writers(
-        &mut proofs,
-        w,
-        here,
-        &Some(s.write),
-        w.writers,
-        back(behind, after),
-    )?;
-    Ok(proofs)
-}
-
-// The proofs of a Zero leaf.
-fn zero_proofs(w: &Answered, here: u32, told: &[Proof]) -> Result<Items<Proof>, AllocError>
-    requires answered { IsAnswered w.now }
-    requires here { here ≤ 2 ^ 30 }
+    requires writer { IsWriterOf w.now.nest.now (occurrence_of w.now.read) w.now.tests.now
+        writer.now }
+    requires leaf { IsLeafBelow w.now here }
+    requires says { is_told w.now.answers.now writer.now ≡ true }
     requires sums { All IsSum told.now }
-    ensures { IfOk result (λ proofs. (c : Context) → IsBelow w.now here c
-        → AreRefuted (write_systems_of (pairs_of w.now) c no_orders) told.now
-        → AreRefuted (zero_systems w.now.nest.now (occurrence_of w.now.read) every c) proofs) }
+    requires count { length told.now ≡ cells_of (write_of writer.now.strides) }
+    ensures { IfOk result (λ proofs. (rest : List RowExpr) (place : List FormOf)
+        → IsAtLeaf w.now here rest
+        → IsPlaceIn (fact_context w.now rest) (depth_of_write writer.now.strides) place
+        → AreRefuted (told_place_systems w.now rest writer.now place) told.now
+        → AreRefuted (own_place_systems w.now rest writer.now place) proofs) }
 {
-    let mut proofs = Items::new(w.alloc);
-    push_writers(&mut proofs, w, here, &None, w.writers, told)?;
-    Ok(proofs)
+    let places = writer.places.as_slice();
+    let rows = rows_with(w, here);
+    let above = rows_above(w);
+    let made = converted_place(&writer.strides, places, rows, told)?;
+    proofs_by_cuts(w.alloc, w.cuts, above, here + 1, made)
 }
 
-// How many rows the context has above those of the facts.
-fn rows_above(w: &Answered) -> u32
-    requires rows { length w.now.read.statement.now.rows ≤ 32 }
-    requires answers { length w.now.answers.now ≤ 6 }
-    ensures { result
-        ≡ length w.now.read.statement.now.rows + 2 * length w.now.answers.now }
-{
-    w.read.statement.rows.len() as u32 + 2 * w.answers.len() as u32
-}
-
-// How many rows a context has without the facts, where it has so many with them.
-fn rows_without(w: &Answered, here: u32) -> u32
-    requires { length w.now.cuts.now ≤ here }
-    ensures { result + length w.now.cuts.now ≡ here }
-{
-    here - w.cuts.len() as u32
-}
-
-// The proofs of a Writer leaf where the facts are no rows of the context.
+// The proofs of a Writer leaf, whose context has `here` rows without the facts.
 fn point_proofs(
     w: &Answered,
     here: u32,
     number: u32,
     told: &[Proof],
 ) -> Result<Items<Proof>, AllocError>
-    requires answered { IsAnswered w.now }
-    requires here { here ≤ 2 ^ 30 }
-    requires facts { HasFacts w.now }
-    requires point { (rest : List RowExpr) × (place : List FormOf)
-        × IsBelow w.now here (fact_context w.now rest)
+    requires leaf { IsLeafBelow w.now here }
+    requires point { (rest : List RowExpr) × (place : List FormOf) × IsAtLeaf w.now here rest
         × IsJoinedPoint w.now (fact_context w.now rest) number place told.now }
     ensures { IfOk result (λ proofs. (rest : List RowExpr) (place : List FormOf)
-        → IsBelow w.now here (fact_context w.now rest)
+        → IsAtLeaf w.now here rest
         → IsJoinedPoint w.now (fact_context w.now rest) number place told.now
-        → IsOwnPoint w.now (more_rows (context_of w.now) rest) number place proofs) }
+        → IsOwnPoint w.now (own_context w.now rest) number place proofs) }
 {
-    let rows = rows_without(w, here);
-    let above = rows_above(w);
-    let proofs = writer_proofs(w, here, number, told)?;
-    if w.cuts.is_empty() {
-        return Ok(proofs);
-    }
-    match writer_counts(w, rows, number) {
-        Ok(counts) => proofs_by_cuts(w.alloc, w.cuts, above, counts.as_slice(), proofs),
-        Err(error) => {
-            drop(proofs);
-            Err(error)
-        }
-    }
+    let writer = writer_at(w.writers, number);
+    let write = &writer.strides.write;
+    let count = cell_count(write) as usize;
+    let cells = front(told, count);
+    let behind = back(told, count);
+    let found = after_counts(w, write)?;
+    let counts = found.as_slice();
+    let mut proofs = place_proofs(w, here, writer, cells)?;
+    let left = push_sums(&mut proofs, w, here, counts, behind)?;
+    push_writers(&mut proofs, w, here, &Some(*write), w.writers, left)?;
+    Ok(proofs)
 }
 
-// The proofs of a Zero leaf where the facts are no rows of the context.
+// The proofs of a Zero leaf, whose context has `here` rows without the facts.
 fn none_proofs(w: &Answered, here: u32, told: &[Proof]) -> Result<Items<Proof>, AllocError>
-    requires answered { IsAnswered w.now }
-    requires here { here ≤ 2 ^ 30 }
-    requires facts { HasFacts w.now }
+    requires leaf { IsLeafBelow w.now here }
     requires sums { All IsSum told.now }
-    requires leaf { (rest : List RowExpr) × IsBelow w.now here (fact_context w.now rest)
-        × AreRefuted (write_systems_of (pairs_of w.now) (fact_context w.now rest) no_orders)
-        told.now }
-    ensures { IfOk result (λ proofs. (rest : List RowExpr)
-        → IsBelow w.now here (fact_context w.now rest)
+    ensures { IfOk result (λ proofs. (rest : List RowExpr) → IsAtLeaf w.now here rest
         → AreRefuted (write_systems_of (pairs_of w.now) (fact_context w.now rest) no_orders)
         told.now
         → AreRefuted (zero_systems w.now.nest.now (occurrence_of w.now.read) every
-        (more_rows (context_of w.now) rest)) proofs) }
+        (own_context w.now rest)) proofs) }
 {
-    let rows = rows_without(w, here);
-    let above = rows_above(w);
-    let proofs = zero_proofs(w, here, told)?;
-    if w.cuts.is_empty() {
-        return Ok(proofs);
-    }
-    match zero_counts(w, rows) {
-        Ok(counts) => proofs_by_cuts(w.alloc, w.cuts, above, counts.as_slice(), proofs),
-        Err(error) => {
-            drop(proofs);
-            Err(error)
-        }
-    }
-}
-
-// The proof of a Dead leaf where the facts are no rows of the context.
-fn dead_proof(w: &Answered, here: u32, proof: Proof) -> Result<Proof, AllocError>
-    requires answered { IsAnswered w.now }
-    requires here { here ≤ 2 ^ 30 }
-    requires facts { HasFacts w.now }
-    requires leaf { (rest : List RowExpr) × IsBelow w.now here (fact_context w.now rest) }
-    ensures { IfOk result (λ own. (rest : List RowExpr)
-        → IsBelow w.now here (fact_context w.now rest)
-        → AreRefuted (dead_systems (fact_context w.now rest)) (proof ∷ [])
-        → AreRefuted (dead_systems (more_rows (context_of w.now) rest)) (own ∷ [])) }
-{
-    let rows = rows_without(w, here);
-    let above = rows_above(w);
-    proof_by_cuts(w.alloc, w.cuts, above, rows, proof)
+    let mut proofs = Items::new(w.alloc);
+    push_writers(&mut proofs, w, here, &None, w.writers, told)?;
+    Ok(proofs)
 }
 
 // A leaf of a joined tree, with proofs for the writes of all writers. Its context has `here` rows.
@@ -570,6 +557,7 @@ fn converted_leaf(w: &Answered, here: u32, leaf: Tree) -> Result<Tree, AllocErro
         → leaf ≡ TestOf form yes no → ⊥) }
     ensures { IfOk result (Converts w.now here leaf) }
 {
+    let here = rows_without(w, here);
     match leaf {
         Tree::Writer(number, place, proofs) => {
             let own = point_proofs(w, here, number, proofs.as_slice());
@@ -587,7 +575,7 @@ fn converted_leaf(w: &Answered, here: u32, leaf: Tree) -> Result<Tree, AllocErro
             drop(proofs);
             Ok(Tree::Zero(own?))
         }
-        Tree::Dead(proof) => Ok(Tree::Dead(dead_proof(w, here, proof)?)),
+        Tree::Dead(proof) => Ok(Tree::Dead(without_facts(w, here, 0, proof)?)),
         _ => unreachable!(),
     }
 }

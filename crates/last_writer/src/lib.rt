@@ -6,8 +6,6 @@
 #![tactic(auto)]
 
 mod class;
-mod contexts;
-mod counts;
 mod leaves;
 mod source;
 mod writers;

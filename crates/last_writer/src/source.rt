@@ -4,10 +4,10 @@ ghost use Rattle.affine_core.specs.Affine.{widened_form};
 ghost use Rattle.difference_graphs.specs.Contexts.{IsMadeAs};
 ghost use Rattle.candidate_order.specs.Reads.{pairs_with};
 ghost use Rattle.candidate_order.specs.declared.candidates.Read.{Read as ReadOf};
-ghost use Rattle.last_writer.specs.Answers.{answered_context, HasSmallRows};
+ghost use Rattle.last_writer.specs.Answers.{answered_context};
 ghost use Rattle.last_writer.specs.Leaves.{context_of, fact_context, told_pairs, vars_of, HasFacts, IsAnswered};
 ghost use Rattle.last_writer.specs.Told.{IsToldOf};
-ghost use Rattle.last_writer.specs.Writers.{is_never, IsSmallTest};
+ghost use Rattle.last_writer.specs.Writers.{is_never};
 ghost use Rattle.last_writer.specs.declared.source.Told.{Told as ToldOf};
 ghost use Rattle.source_tree.specs.Checked.{IsChecked, IsCheckedIn};
 ghost use Rattle.source_tree.specs.Exact.{IsExact};
@@ -15,12 +15,12 @@ ghost use Rattle.source_tree.specs.Systems.{every, read_at, root_context, Contex
 ghost use Rattle.sanlp.specs.declared.nest.Nest.{Nest as NestOf};
 ghost use Rattle.source_tree.specs.declared.tree.Tree.TheViews.{Divides as DividesOf};
 ghost use Rattle.stride_rows.specs.Class.{IsInStrideClass};
+ghost use Rattle.stride_trees.specs.Answers.{HasSmallRows, IsSmallTest};
 ghost use Rattle.stride_trees.specs.Contexts.{IsNoIn};
 ghost use Rattle.stride_trees.specs.Divisions.{always_divides};
 ghost use Rattle.stride_trees.specs.Strides.{read_of, ArePlaces, IsStrided};
 ghost use Rattle.source_tree.specs.References.{occurrence_of};
 
-use crate::contexts::below_test;
 use crate::leaves::{Answered, converted, refusal_of};
 use crate::writers::{Writer, is_never, push_writers};
 use affine_core::{Form, KeptForm, KeptNumber, Row};
@@ -32,7 +32,7 @@ use sanlp::{Nest, Statement};
 use source_tree::{Reference, Tree};
 use std::alloc::{AllocError, Global};
 use stride_trees::{
-    Division, always_divides, divided_rows, no_is_nowhere, told_reads, told_writes,
+    Division, always_divides, below_test, divided_rows, no_is_nowhere, told_reads, told_writes,
 };
 use tree_facts::{Tests, facts_of, with_facts};
 

@@ -2,4 +2,4 @@ use Rattle.std.proofs.Common.{length}
 use Rattle.last_writer.proofs.leaves.+push_sums.Given as goal
 
 abbrev pub decreases-push_sums : goal.decreases-push_sums
-decreases-push_sums l = length l.sums.now
+decreases-push_sums l = length l.counts.now

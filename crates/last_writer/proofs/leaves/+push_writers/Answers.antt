@@ -5,16 +5,17 @@ use Rattle.std.specs.List.{flat_map}
 use Rattle.std.proofs.lemmas.List.{append-nil, append_assoc, nil_from_length}
 use Rattle.std.proofs.lemmas.List.Elements.{All-head, All-tail}
 use Rattle.std.proofs.lemmas.Result.{on_ok_weaker}
-use Rattle.last_writer.specs.Leaves.{own_systems, told_systems}
+use Rattle.last_writer.specs.Leaves.{fact_context, own_context, own_systems, told_systems}
 use Rattle.last_writer.specs.Writers.{IsWriterOf}
 use Rattle.source_tree.specs.Checked.{AreRefuted}
 use Rattle.source_tree.specs.References.{occurrence_of}
 use Rattle.last_writer.proofs.leaves.+push_writers.Goals as goal
 
 pub returns-in_default : goal.returns-in_default
-returns-in_default t c cx further systems below behind old told =
+returns-in_default t c rest further systems at behind old told =
     let none : c.args.writers.now ≡ [] = nil_from_length c.args.writers.now c.in_default.ensures.cases in
-    subst (λ ws. AreRefuted (systems ++ flat_map (own_systems cx further) ws) c.args.proofs.now) (sym none)
+    let own = own_systems (own_context c.args.w.now rest) further in
+    subst (λ ws. AreRefuted (systems ++ flat_map own ws) c.args.proofs.now) (sym none)
     (subst (λ xs. AreRefuted xs c.args.proofs.now) (sym (append-nil systems)) old)
 
 pub push_writer-requires-clause-writer : goal.push_writer-requires-clause-writer
@@ -32,7 +33,7 @@ push_writers-requires t c =
       omega (arith, ap length first),
       (
         All-tail own c.in-Some.writer.now c.in-Some.writers.now (subst (All own) first c.requires.writers),
-        (c.requires.answered, (c.requires.here, (c.requires.behind, c.in_ok-told.ensures.sums))),
+        (c.requires.leaf, (c.requires.behind, c.in_ok-told.ensures.sums)),
       ),
     )
 
@@ -43,12 +44,12 @@ returns t c =
     let xs = c.in-Some.writers.now in
     let first : c.args.writers.now ≡ x ∷ xs = search rules in
     on_ok_weaker c.push_writers.result
-    (λ rest cx further systems below behind old told.
-    (let answers = w.answers.now in
-    let both = c.in_ok-told.ensures.proofs cx further below behind systems
-    (flat_map (told_systems answers cx further) xs) old
-    (subst (λ ws. AreRefuted (flat_map (told_systems answers cx further) ws) c.args.told.now) first told) in
-    let all = rest cx further (systems ++ own_systems cx further x) below behind both.0 both.1 in
-    subst (λ ws. AreRefuted (systems ++ flat_map (own_systems cx further) ws) c.push_writers.new.proofs) (sym first)
-    (subst (λ ys. AreRefuted ys c.push_writers.new.proofs)
-    (append_assoc systems (own_systems cx further x) (flat_map (own_systems cx further) xs)) all))) c.push_writers.ensures
+    (λ others rest further systems at behind old told.
+    (let from = told_systems w.answers.now (fact_context w rest) further in
+    let own = own_systems (own_context w rest) further in
+    let both = c.in_ok-told.ensures.proofs rest further at behind systems (flat_map from xs) old
+    (subst (λ ws. AreRefuted (flat_map from ws) c.args.told.now) first told) in
+    let all = others rest further (systems ++ own x) at behind both.0 both.1 in
+    subst (λ ws. AreRefuted (systems ++ flat_map own ws) c.push_writers.new.proofs) (sym first)
+    (subst (λ ys. AreRefuted ys c.push_writers.new.proofs) (append_assoc systems (own x) (flat_map own xs)) all)))
+    c.push_writers.ensures

@@ -1,92 +1,123 @@
--- Each proof of the Writer leaf with the number of rows of its system.
-use Rattle.std.proofs.Common.{◌≡◌, ◌≤◌, ◌+◌, ◌^◌, ◌<◌, length, sym, ap, ◌∙◌, subst, arith}
+-- The proofs of a joined leaf are cut at the number of its rows and subscripts; the first part is converted, and of the others each
+-- step takes what is its own: the orders of the reader before the place, and writer by writer the writes between.
+use Rattle.std.proofs.Common.{◌≡◌, ◌≤◌, ℕ, length, map, refl, sym, ap, ◌∙◌, subst}
 use Rattle.std.specs.Prelude.{All}
-use Rattle.std.proofs.lemmas.List.Elements.{All-weaker}
-use Rattle.std.proofs.lemmas.Result.{IfOk-weaker}
-use Rattle.last_writer.proofs.FactLeaves.{above_count, nothing_told, point_away, point_few, point_length, rows_without}
-use Rattle.last_writer.proofs.JointTrees.{few_loops, few_rows}
-use Rattle.last_writer.proofs.RowCounts.{IsFew}
-use Rattle.last_writer.proofs.WriterLeaves.{leaf_writer}
-use Rattle.last_writer.specs.Leaves.{context_of, fact_context, IsOwnPoint}
-use Rattle.source_tree.specs.Systems.{more_rows}
-use Rattle.tree_facts.specs.Cuts.{proofs_by_cuts}
+use Rattle.std.proofs.lemmas.List.Elements.{All-drop, All-take}
+use Rattle.difference_graphs.specs.Joint.{orders_behind, IsSum}
+use Rattle.last_writer.proofs.JointTrees.{few_loops}
+use Rattle.last_writer.proofs.LeafConversion.{few_after}
+use Rattle.last_writer.proofs.WriterLeaves.{back_is, cells_inside, first, front_is, is_place, is_told_here, leaf_writer, of}
+use Rattle.last_writer.proofs.WriterLeaves.{orders_long, own_point, place_count, writer_fits}
+use Rattle.last_writer.specs.Leaves.{after_orders, fact_context, own_context, told_place_systems, AddsProofs}
+use Rattle.source_tree.specs.Checked.{AreRefuted}
+use Rattle.source_tree.specs.Systems.{with_rows}
+use Rattle.source_tree.specs.References.{occurrence_of}
+use Rattle.stride_trees.specs.Strides.{read_of, write_of}
 use Rattle.last_writer.proofs.leaves.point_proofs.Goals as goal
 
-pub rows_above-above-requires-clause-rows : goal.rows_above-above-requires-clause-rows
-rows_above-above-requires-clause-rows c = few_rows c.args.w.now c.requires.answered
-
-pub rows_above-above-requires-clause-answers : goal.rows_above-above-requires-clause-answers
-rows_above-above-requires-clause-answers c = omega (arith, c.requires.answered.answers, c.requires.answered.few)
-
-pub rows_without-rows-requires : goal.rows_without-rows-requires
-rows_without-rows-requires c =
+pub writer_at-writer-requires : goal.writer_at-writer-requires
+writer_at-writer-requires c =
     let p = c.requires.point in
-    omega (arith, rows_without c.args.w.now c.args.here p.0 c.requires.facts p.2)
+    leaf_writer c.args.w.now (fact_context c.args.w.now p.0) c.args.number p.1 c.args.told.now p.3
 
-pub writer_proofs-requires-clause-point : goal.writer_proofs-requires-clause-point
-writer_proofs-requires-clause-point c =
-    let p = c.requires.point in (fact_context c.args.w.now p.0, p.1, p.2, p.3)
+pub cell_count-count-requires-clause-rows : goal.cell_count-count-requires-clause-rows
+cell_count-count-requires-clause-rows c =
+    (writer_fits c.args.w.now c.writer_at-writer.result.now c.requires.leaf.answered c.writer_at-writer.ensures.among).few_rows
 
-pub writer_counts-requires-clause-here : goal.writer_counts-requires-clause-here
-writer_counts-requires-clause-here c = omega (arith, c.rows_without-rows.ensures, c.requires.here)
+pub cell_count-count-requires-clause-subscripts : goal.cell_count-count-requires-clause-subscripts
+cell_count-count-requires-clause-subscripts c =
+    (writer_fits c.args.w.now c.writer_at-writer.result.now c.requires.leaf.answered
+    c.writer_at-writer.ensures.among).few_subscripts
 
-pub writer_counts-requires-clause-number : goal.writer_counts-requires-clause-number
-writer_counts-requires-clause-number c =
+pub front-cells-requires : goal.front-cells-requires
+front-cells-requires c =
+    let p = c.requires.point in
+    cells_inside c.args.w.now c.args.here p.0 c.args.number p.1 c.args.told.now c.writer_at-writer.result.now
+    c.requires.leaf.answered p.2 p.3 c.writer_at-writer.ensures.among c.writer_at-writer.ensures.number c.cell_count-count.result
+    c.cell_count-count.ensures
+
+pub back-behind-requires : goal.back-behind-requires
+back-behind-requires c =
+    let p = c.requires.point in
+    cells_inside c.args.w.now c.args.here p.0 c.args.number p.1 c.args.told.now c.writer_at-writer.result.now
+    c.requires.leaf.answered p.2 p.3 c.writer_at-writer.ensures.among c.writer_at-writer.ensures.number c.cell_count-count.result
+    c.cell_count-count.ensures
+
+pub after_counts-requires : goal.after_counts-requires
+after_counts-requires c = few_loops c.args.w.now c.requires.leaf.answered
+
+pub place_proofs-requires-clause-writer : goal.place_proofs-requires-clause-writer
+place_proofs-requires-clause-writer c =
+    let p = c.requires.point in
+    of c.args.w.now c.args.here p.0 c.args.number p.1 c.args.told.now c.writer_at-writer.result.now c.requires.leaf.answered
+    p.2 p.3 c.writer_at-writer.ensures.among c.writer_at-writer.ensures.number
+
+pub place_proofs-requires-clause-says : goal.place_proofs-requires-clause-says
+place_proofs-requires-clause-says c =
+    let p = c.requires.point in
+    is_told_here c.args.w.now c.args.here p.0 c.args.number p.1 c.args.told.now c.writer_at-writer.result.now
+    c.requires.leaf.answered p.2 p.3 c.writer_at-writer.ensures.among c.writer_at-writer.ensures.number
+
+pub place_proofs-requires-clause-sums : goal.place_proofs-requires-clause-sums
+place_proofs-requires-clause-sums c =
+    subst (All IsSum) (sym c.front-cells.ensures) (All-take IsSum c.cell_count-count.result c.args.told.now c.requires.point.3.sums)
+
+pub place_proofs-requires-clause-count : goal.place_proofs-requires-clause-count
+place_proofs-requires-clause-count c =
     let w = c.args.w.now in
     let p = c.requires.point in
-    leaf_writer w (fact_context w p.0) c.args.number p.1 c.args.told.now p.3
+    let x = c.writer_at-writer.result.now in
+    ap length (c.front-cells.ensures ∙ front_is w c.args.here p.0 c.args.number p.1 c.args.told.now x c.requires.leaf.answered
+    p.2 p.3 c.writer_at-writer.ensures.among c.writer_at-writer.ensures.number c.cell_count-count.result c.cell_count-count.ensures)
+    ∙ place_count w c.args.here p.0 c.args.number p.1 c.args.told.now x c.requires.leaf.answered p.2 p.3
+    c.writer_at-writer.ensures.among c.writer_at-writer.ensures.number
 
-pub proofs_by_cuts-requires-clause-few : goal.proofs_by_cuts-requires-clause-few
-proofs_by_cuts-requires-clause-few c =
+pub push_sums-requires-clause-counts : goal.push_sums-requires-clause-counts
+push_sums-requires-clause-counts c =
     let w = c.args.w.now in
-    let p = c.requires.point in
-    let k = c.in-Ok.ensures in
-    All-weaker IsFew (λ n. n + length w.cuts.now < 2 ^ 32)
-    (λ n le. omega (arith, le, c.rows_without-rows.ensures, c.requires.here)) c.as_slice.result.now
-    (point_few w p.0 c.requires.answered c.requires.facts c.args.here c.rows_without-rows.result p.2
-    c.rows_without-rows.ensures k.0 c.args.number p.1 c.args.told.now k.1 k.2 p.3 (few_loops w c.requires.answered)
-    (omega (arith, c.rows_without-rows.ensures, c.requires.here)) c.as_slice.result.now (c.as_slice.ensures ∙ k.3))
+    let r = occurrence_of w.read in
+    let u = write_of c.writer_at-writer.result.now.strides in
+    let few = λ (n : ℕ). n ≤ 32 in
+    let loops : length r.statement.loops ≤ 6 = few_loops w c.requires.leaf.answered in
+    subst (All few) (sym (c.as_slice-counts.ensures ∙ c.in_ok-found.ensures)) (few_after r u loops)
 
-pub proofs_by_cuts-requires-clause-inside : goal.proofs_by_cuts-requires-clause-inside
-proofs_by_cuts-requires-clause-inside c =
-    omega (
-      arith,
-      c.rows_above-above.ensures,
-      few_rows c.args.w.now c.requires.answered,
-      c.requires.answered.answers,
-      c.requires.answered.few,
-      c.rows_without-rows.ensures,
-      c.requires.here,
-    )
+pub push_sums-requires-clause-sums : goal.push_sums-requires-clause-sums
+push_sums-requires-clause-sums c =
+    subst (All IsSum) (sym c.back-behind.ensures) (All-drop IsSum c.cell_count-count.result c.args.told.now c.requires.point.3.sums)
 
-pub proofs_by_cuts-requires-clause-count : goal.proofs_by_cuts-requires-clause-count
-proofs_by_cuts-requires-clause-count c =
+pub push_writers-requires-clause-writers : goal.push_writers-requires-clause-writers
+push_writers-requires-clause-writers c = c.requires.leaf.answered.writers.each
+
+pub push_writers-requires-clause-behind : goal.push_writers-requires-clause-behind
+push_writers-requires-clause-behind c =
+    (writer_fits c.args.w.now c.writer_at-writer.result.now c.requires.leaf.answered c.writer_at-writer.ensures.among).few_loops
+
+pub returns : goal.returns
+returns c rest place at j =
     let w = c.args.w.now in
-    let p = c.requires.point in
-    let k = c.in-Ok.ensures in
-    point_length w p.0 c.requires.answered c.requires.facts c.args.here c.rows_without-rows.result p.2
-    c.rows_without-rows.ensures k.0 c.args.number p.1 c.args.told.now k.1 k.2 p.3 c.as_slice.result.now
-    c.in_ok-proofs.proofs (c.as_slice.ensures ∙ k.3) (c.in_ok-proofs.ensures (fact_context w p.0) p.1 p.2 p.3)
-
-pub returns-in-Ok : goal.returns-in-Ok
-returns-in-Ok c =
-    let w = c.args.w.now in
-    let k = c.in-Ok.ensures in
-    let number = c.args.number in
-    let counts = c.as_slice.result.now in
-    let proofs = c.in_ok-proofs.proofs in
-    IfOk-weaker c.proofs_by_cuts.result _ _
-    (λ own is rest place below j.
-    subst (IsOwnPoint w (more_rows (context_of w) rest) number place) (sym is)
-    (subst (λ k. IsOwnPoint w (more_rows (context_of w) rest) number place (proofs_by_cuts k counts w.cuts.now proofs))
-    (sym (c.rows_above-above.ensures ∙ above_count w c.requires.answered))
-    (point_away w rest c.requires.answered c.requires.facts c.args.here c.rows_without-rows.result below
-    c.rows_without-rows.ensures k.0 number place c.args.told.now k.1 k.2 j counts proofs (c.as_slice.ensures ∙ k.3)
-    (c.in_ok-proofs.ensures (fact_context w rest) place below j)))) c.proofs_by_cuts.ensures
-
-pub returns-then-is_empty : goal.returns-then-is_empty
-returns-then-is_empty c rest place below j =
-    let w = c.args.w.now in
-    subst (λ cx. IsOwnPoint w cx c.args.number place c.in_ok-proofs.proofs)
-    (nothing_told w rest c.is_empty.result c.is_empty.ensures c.if-is_empty.true c.requires.facts)
-    (c.in_ok-proofs.ensures (fact_context w rest) place below j)
+    let x = c.writer_at-writer.result.now in
+    let u = write_of x.strides in
+    let h = c.requires.leaf.answered in
+    let cx = fact_context w rest in
+    let among = c.writer_at-writer.ensures.among in
+    let number = c.writer_at-writer.ensures.number in
+    let one = first w c.args.here rest c.args.number place c.args.told.now x h at j among number in
+    let orders = after_orders (read_of x.strides) u place in
+    let place_in = is_place w c.args.here rest c.args.number place c.args.told.now x h at j among number in
+    let front_same : c.front-cells.result.now ≡ one.front = c.front-cells.ensures
+    ∙ front_is w c.args.here rest c.args.number place c.args.told.now x h at j among number c.cell_count-count.result
+    c.cell_count-count.ensures in
+    let back_same : c.back-behind.result.now ≡ one.back = c.back-behind.ensures
+    ∙ back_is w c.args.here rest c.args.number place c.args.told.now x h at j among number c.cell_count-count.result
+    c.cell_count-count.ensures in
+    own_point w c.args.here rest c.args.number place c.args.told.now x h at j among number c.in_ok-proofs.proofs
+    c.in_ok-left.left.now c.push_sums.new.proofs c.push_writers.new.proofs
+    (λ told. c.in_ok-proofs.ensures rest place at place_in
+    (subst (AreRefuted (told_place_systems w rest x place)) (sym front_same) told))
+    (subst (λ told. AddsProofs (map (with_rows cx) orders) (map (with_rows (own_context w rest)) orders) told
+    c.in_ok-left.left.now c.in_ok-proofs.proofs c.push_sums.new.proofs) back_same
+    (c.in_ok-left.ensures.proofs rest orders at
+    (orders_long w c.args.here rest c.args.number place c.args.told.now x h at j among number c.as_slice-counts.result.now
+    (c.as_slice-counts.ensures ∙ c.in_ok-found.ensures))))
+    (λ systems before told. c.in_ok-push_writers.ensures rest (orders_behind u place cx) systems at
+    (place, place_in, λ v. refl) before told)

@@ -7,7 +7,7 @@ use Rattle.std.proofs.lemmas.Result.{IfOk-weaker}
 use Rattle.int_polyhedra.specs.declared.system.System.{System}
 use Rattle.last_writer.proofs.JointTrees.{below_here, joined_below, pairs_joined, read_joined}
 use Rattle.last_writer.proofs.LeafConversion.{zip_count}
-use Rattle.last_writer.specs.Answers.{HasSmallRows}
+use Rattle.stride_trees.specs.Answers.{HasSmallRows}
 use Rattle.last_writer.specs.Leaves.{context_of}
 use Rattle.last_writer.specs.Writers.{IsPlaceOf, IsWriterOf}
 use Rattle.last_writer.proofs.source.joined_in.Goals as goal

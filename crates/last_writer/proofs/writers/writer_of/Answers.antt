@@ -2,7 +2,7 @@ use Rattle.std.proofs.Common.{◌≡◌, ◌≤ℤ◌, ◌^◌, pos, length, sym
 use Rattle.std.specs.Prelude.{All}
 use Rattle.std.proofs.lemmas.Int.{ints}
 use Rattle.std.proofs.lemmas.List.Elements.{All-weaker}
-use Rattle.last_writer.specs.Writers.{IsSmallTest}
+use Rattle.stride_trees.specs.Answers.{IsSmallTest}
 use Rattle.last_writer.proofs.WriterLists.{small_tests}
 use Rattle.row_sums.specs.Parts.{IsWithin}
 use Rattle.stride_trees.proofs.ProblemBounds.{all_within, are_fitting}

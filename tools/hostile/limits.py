@@ -779,7 +779,7 @@ def on_processors(program: str) -> None:
         bundle = bundled(source, data)
         wanted = asking.ask(program, ["seq", *words], bundle, SECONDS).said
         cpus = sorted(os.sched_getaffinity(0))
-        for count in (1, 2, 4, len(cpus)):
+        for count in sorted({1, 2, 4, len(cpus)}):
             if len(cpus) < count:
                 continue
             os.sched_setaffinity(0, cpus[:count])

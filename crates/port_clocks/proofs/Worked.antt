@@ -1,0 +1,92 @@
+-- Clocked runs of the ports of small networks, computed from the definitions. The clocks were counted by hand.
+--
+-- Above the rows of a network stands at which clocks each process makes its Gets (G), Fires (F) and Puts (P), as it was reckoned.
+-- A token that is put at one clock is got at the next one at the earliest, and a place that a Get leaves at one clock is taken at
+-- the next one. A process puts a value, fires the next and gets operands for the one after at one clock. They are examples: no law
+-- follows from them.
+use Rattle.std.proofs.Common.{◌≡◌, ℕ, List, [], ◌∷◌, flat_map, length, refl}
+use Rattle.std.specs.Prelude.{slice_index_or}
+use Rattle.std.specs.List.{range_with_len}
+use Rattle.net_core.specs.declared.network.Event.{Event}
+use Rattle.net_core.specs.declared.network.Event.TheVariants.{Get, Fire, Put}
+use Rattle.net_core.specs.declared.refs.Ref.TheVariants.{Zero, Slot}
+use Rattle.net_core.specs.Machine.{Net}
+use Rattle.net_core.specs.Rules.{tags}
+use Rattle.port_clocks.specs.PortClocks.{after_port_clocks, events_of_clock, port_clocks}
+
+-- processes with these scripts and numbers of slots, and channels with these writers, readers and capacities
+abbrev network : List (List Event) → List ℕ → List ℕ → List ℕ → List ℕ → Net
+network scripts slots writers readers capacities = record {
+  processes = length scripts;
+  channels = length capacities;
+  script = λ p. slice_index_or scripts p [];
+  slots = λ p. slice_index_or slots p 0;
+  writer = λ c. slice_index_or writers c 0;
+  reader = λ c. slice_index_or readers c 0;
+  capacity = λ c. slice_index_or capacities c 0;
+}
+
+-- the same events so many times
+abbrev times : ℕ → List Event → List Event
+times n events = flat_map (λ turn. events) (range_with_len 0 n)
+
+-- for i < turns y[i] = x[i] + 1, with this capacity of both channels
+abbrev increments : ℕ → ℕ → Net
+increments turns capacity =
+    network
+    (times turns (Fire [] ∷ Put 0 ∷ [])
+    ∷ times turns (Get 0 0 ∷ Fire (Slot 0 ∷ []) ∷ Put 1 ∷ [])
+    ∷ times turns (Get 1 0 ∷ Fire (Slot 0 ∷ []) ∷ []) ∷ [])
+    (0 ∷ 1 ∷ 1 ∷ []) (0 ∷ 1 ∷ []) (1 ∷ 2 ∷ []) (capacity ∷ capacity ∷ [])
+
+-- One turn: each event waits for the one before it.
+-- source F1 P2, assignment G3 F4 P5, sink G6 F7
+
+one_turn : port_clocks (increments 1 1) ≡ 7
+unfolding port_clocks
+one_turn = refl
+
+-- no turn, and so no event and no clock
+no_turn : port_clocks (increments 0 1) ≡ 0
+unfolding port_clocks
+no_turn = refl
+
+-- Three turns with three places: after the first each process fires at every clock.
+-- source F1 F2 F3, P2 P3 P4; assignment G3 G4 G5, F4 F5 F6, P5 P6 P7; sink G6 G7 G8, F7 F8 F9
+
+more_room : port_clocks (increments 3 3) ≡ 9
+unfolding port_clocks
+more_room = refl
+
+-- at clock 5 the assignment puts, fires and gets
+fifth_clock : events_of_clock (increments 3 3) tags (after_port_clocks (increments 3 3) tags 4)
+    ≡ (1, 2) ∷ (1, 4) ∷ (1, 6) ∷ []
+fifth_clock = refl
+
+-- Three turns with one place: each channel has a token or room, but never both, so it carries a token at every other clock.
+-- source F1 P2 F2 P4 F4 P6, assignment G3 F4 G5 P5 F6 G7 P7 F8 P9, sink G6 F7 G8 F9 G10 F11
+
+three_turns : port_clocks (increments 3 1) ≡ 11
+unfolding port_clocks
+three_turns = refl
+
+-- at clock 3 the source waits, though the place that it waits for is left at that clock
+third_clock : events_of_clock (increments 3 1) tags (after_port_clocks (increments 3 1) tags 2) ≡ (1, 0) ∷ []
+third_clock = refl
+
+-- for i < 3 s[i] = s[i - 1] + x[i]: the assignment is the reader and the writer of channel 0, so it fires at every third clock
+-- source F1 P2 F2 P3 F3 P4, assignment G3 F4 G4 P5 P5 G6 F7 G7 P8 P8 G9 F10 P11, sink G6 F7 G9 F10 G12 F13
+
+abbrev sums : Net
+sums =
+    network
+    (times 3 (Fire [] ∷ Put 1 ∷ [])
+    ∷ (Get 1 1 ∷ Fire (Zero ∷ Slot 1 ∷ []) ∷ Put 0 ∷ Put 2
+    ∷ Get 0 0 ∷ Get 1 1 ∷ Fire (Slot 0 ∷ Slot 1 ∷ []) ∷ Put 0 ∷ Put 2
+    ∷ Get 0 0 ∷ Get 1 1 ∷ Fire (Slot 0 ∷ Slot 1 ∷ []) ∷ Put 2 ∷ [])
+    ∷ times 3 (Get 2 0 ∷ Fire (Slot 0 ∷ []) ∷ []) ∷ [])
+    (0 ∷ 2 ∷ 1 ∷ []) (1 ∷ 0 ∷ 1 ∷ []) (1 ∷ 1 ∷ 2 ∷ []) (1 ∷ 3 ∷ 3 ∷ [])
+
+sums_clocks : port_clocks sums ≡ 13
+unfolding port_clocks
+sums_clocks = refl

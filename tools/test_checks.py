@@ -257,9 +257,10 @@ def faults() -> Iterator[Fault]:
     yield Fault("hardware/folds.py", ["--quick", "transpose"], "rtl: more instructions", more, RTL)
     kernel = ["examples/jacobi_1d.loop", "N=8", "T=3"]
     other_clocks = spoiled(None, rb"clocks \d", b"clocks 9")
-    yield Fault("../hardware/least_clocks", kernel, "rtl: another number of clocks", other_clocks, RTL)
     not_least = changed("tools/hardware/least.py", "= enough\n", "= min(enough + 1, capacities[channel])\n", ("hardware",))
-    yield Fault("../hardware/least_clocks", kernel, "capacities that aren't the least", not_least)
+    for check, words in (("../hardware/least_clocks", kernel), ("hardware/least_clocks.py", ["--quick", "matrix_product"])):
+        yield Fault(check, words, "rtl: another number of clocks", other_clocks, RTL)
+        yield Fault(check, words, "capacities that aren't the least", not_least)
     yield Fault("check_c.py", ["gemm"], "run: another value", spoiled("run", rb",", b",1"))
     yield Fault("check_isl.py", FEW, "deps: another writer", spoiled("deps", rb"(?m)^w 0 ", b"w 1 "))
     yield Fault("check_isl.py", FEW, "deps: another test", spoiled("deps", rb"(?m)^t (-?\d+) ", rb"t \g<1>1 "))

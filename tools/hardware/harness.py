@@ -158,14 +158,20 @@ def clocks_told(text: str, command: str) -> int:
     return int(told[1])
 
 
-def design_of(program: str, policy: str, example: Example, answer: str | None = None) -> Design:
-    """The network of an example with its nodes, channels, wiring and test bench, which wants the example's answer or another."""
+def wired(program: str, policy: str, example: Example) -> Design:
+    """The network of an example with its nodes, channels and wiring."""
     vhdl = text_of(program, "vhdl", policy, example)
     network, nodes = read_texts(text_of(program, "net", policy, example), vhdl)
-    wanted = example.answer.decode("latin-1") if answer is None else answer
     files = {"nodes.vhd": vhdl} if nodes else {}  # a text of comments alone is no VHDL file
     files["channel.vhd"] = read_file(CHANNEL)
     files["network.vhd"] = wiring_text(network, nodes)
+    return Design(network, nodes, files)
+
+
+def design_of(program: str, policy: str, example: Example, answer: str | None = None) -> Design:
+    """The same with a test bench, which wants the example's answer or another."""
+    network, nodes, files = wired(program, policy, example)
+    wanted = example.answer.decode("latin-1") if answer is None else answer
     files["bench.vhd"] = bench_text(network, nodes, read_arrays(example.data.decode("latin-1")), read_arrays(wanted))
     return Design(network, nodes, files)
 

@@ -1,4 +1,4 @@
-"""The least capacities with which a network takes no more clocks than some number, found by runs of it.
+"""The least capacities with which a network takes no more clocks than some number, found by runs of its scripts.
 
 No run is made clock by clock. Each process makes its events one a clock, a Get at the earliest a clock behind the Put of its token, and a
 Put at the earliest a clock behind the Get that made room for it; so the clock of each event follows from those of three others, in
@@ -8,13 +8,39 @@ from __future__ import annotations
 
 import re
 from collections.abc import Sequence
+from typing import NamedTuple
 
+from hardware import harness
 from hardware.wiring import Unfit
-from network import Part, events_of
+from network import Channel, Part, events_of, network_of, scripts_of
 
 # The events of a process between which fires are left out: how many clocks behind the last one each comes at the earliest, its channel, and
 # whether it is a Put. Then the fires behind the last.
 Steps = tuple[list[tuple[int, int, bool]], int]
+
+
+class Planned(NamedTuple):
+    """The network of a policy: what each process does, the channels, and the capacities that `compaan trim` tells."""
+
+    processes: list[Steps]
+    channels: list[Channel]
+    trimmed: list[int]
+
+    @property
+    def capacities(self) -> list[int]:
+        return [it.capacity for it in self.channels]
+
+    @property
+    def room_for_all(self) -> list[int]:
+        """Capacities with which no process ever waits for room."""
+        return [max(it.tokens, 1) for it in self.channels]
+
+
+def planned(program: str, words: Sequence[str], source: bytes) -> Planned:
+    """The network of a source by a policy, as the program writes it: its words are the policy and the values of parameters."""
+    net, certificate, trim = (harness.written(program, [it, *words], source) for it in ("net", "cert", "trim"))
+    trimmed = [int(it) for it in re.findall(r"(?m)^channel \d+ capacity (\d+) ", trim)]
+    return Planned([steps_of(script) for script in scripts_of(certificate)], network_of(net).channels, trimmed)
 
 
 def steps_of(script: list[Part]) -> Steps:

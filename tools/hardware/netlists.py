@@ -127,16 +127,29 @@ def verilog_files(ghdl: str, files: Mapping[str, str], seconds: float | None = N
     return {"netlist.v": VALUES.sub(apart, verilog_of(ghdl, files, seconds)), **tables}
 
 
-def counts_of(part: Mapping[str, object]) -> tuple[Counts, Counter[str]]:
-    """What yosys tells of a module, and the modules in it."""
-    cells = multipliers = flip_flops = latches = 0
+def values_in(files: Mapping[str, str]) -> Counter[str]:
+    """How many values stand in the memories of each module of netlist.v from the start."""
+    found: Counter[str] = Counter()
+    module = ""
+    for name, table in re.findall(r'(?m)^module (\S+)|^  initial \$readmemb\("(\w+\.txt)"', files["netlist.v"]):
+        module = name.lstrip("\\") or module
+        found[module] += files[table].count("\n") if table else 0
+    return found
+
+
+def counts_of(part: Mapping[str, object], values: int) -> tuple[Counts, Counter[str]]:
+    """What yosys tells of a module in which so many values stand in memories from the start, each of which is a cell; and the modules in
+    it."""
+    cells, multipliers, flip_flops, latches = values, 0, 0, 0
     inside: Counter[str] = Counter()
     for cell, number in part["num_cells_by_type"].items():  # type: ignore[attr-defined]
         if not cell.startswith("$"):
             inside[cell.lstrip("\\")] += number
             continue
-        cells += number
         kind, _, width = cell.lstrip("$").rpartition("_")
+        if kind.startswith("meminit"):
+            continue
+        cells += number
         if kind == "mul":
             multipliers += number
         elif "dff" in kind:
@@ -148,18 +161,21 @@ def counts_of(part: Mapping[str, object]) -> tuple[Counts, Counter[str]]:
 
 def counted(ghdl: str, yosys: str, files: Mapping[str, str], seconds: float | None = None) -> tuple[dict[str, Counts], bool]:
     """What yosys counts in each entity of the network, all of its copies together; and whether its latches are to be judged."""
-    netlist = verilog_of(ghdl, files, seconds)
+    netlist = verilog_files(ghdl, files, seconds)
     with harness.new_folder() as folder:
-        write_file(folder, "netlist.v", netlist)
+        for name, text in netlist.items():
+            write_file(folder, name, text)
         well, lines = harness.call([yosys, "-q", "-p", f"{READ}; {COUNT}"], folder, seconds)
         if not well:
             raise Unfit("not read by yosys: " + "; ".join(lines))
         text = read_file(os.path.join(folder, "counts.json"))
     # yosys 0.23 lists what is in the network in words behind the modules
     modules = json.loads(text[text.index("{") : text.index("\n   }")] + "}}")["modules"]
-    found = {name.lstrip("\\"): counts_of(part) for name, part in modules.items()}
+    values = values_in(netlist)
+    named = {name.lstrip("\\"): part for name, part in modules.items()}
+    found = {name: counts_of(part, values[name]) for name, part in named.items()}
     # GHDL 2 leaves out the last branch of a `case` in Verilog, and a latch that isn't in the network is read for it
-    return {name: counts for name, counts in copies(found, "network")}, "default" in netlist
+    return {name: counts for name, counts in copies(found, "network")}, "default" in netlist["netlist.v"]
 
 
 def copies(modules: Mapping[str, tuple[Counts, Counter[str]]], top: str) -> list[tuple[str, Counts]]:

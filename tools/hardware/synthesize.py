@@ -3,13 +3,13 @@
 design of `compaan rtl`.
 
 usage: tools/hardware/synthesize.py [--compaan PROGRAM] [--rtl PROGRAM] [--ghdl PROGRAM] [--yosys PROGRAM] [--policy seq|down]
-                                    [--text vhdl|rtl] [--seconds NUMBER] [--parts] [EXAMPLE]..
+                                    [--text vhdl|rtl] [--seconds NUMBER] [--counts] [--parts] [EXAMPLE]..
 
 GHDL synthesizes each network, and what comes of it is simulated in the network's place: it must give the same arrays in as many clocks,
 those of `compaan sim`; of a design so also two frames with stalls at all ports. Where there is yosys, it reads what GHDL made, checks it
-and counts what is in it; --parts tells so of each process. A tool that takes more than NUMBER seconds (600) is ended, and nothing is told
-of that text. An EXAMPLE is as for tools/hardware/simulate.py. Prints a table, and ends with 0 where all is well, 1 where something isn't,
-and 2 where it can't begin, as without GHDL.
+and counts what is in it; --parts tells so of each process. With --counts nothing is simulated. A tool that takes more than NUMBER seconds
+(600) is ended, and nothing is told of that text. An EXAMPLE is as for tools/hardware/simulate.py. Prints a table, and ends with 0 where
+all is well, 1 where something isn't, and 2 where it can't begin, as without GHDL.
 """
 from __future__ import annotations
 
@@ -28,7 +28,7 @@ from hardware.simulate import compare_clocks
 from hardware.wiring import Process, TooLong, Unfit, read_net
 
 TEXTS = ("vhdl", "rtl")
-NOT_ENDED = "not ended"
+NOT_ENDED, NOT_SIMULATED = "not ended", "not simulated"
 COUNTS = ["Cells", "Multipliers", "Bits of flip-flops", "Of memories", "Latches"]
 HEAD = ["Example", "Parameters", "Text", "Steps", "Clocks", "Netlist", *COUNTS]
 PARTS = ("Steps", "Cells", "Bits of memories", "Multipliers")
@@ -61,17 +61,18 @@ class Made(NamedTuple):
 
     @property
     def is_well(self) -> bool:
-        return self.outcome.verdict in ("equal", NOT_ENDED) and self.latches in ("-", "not judged", 0)
+        return self.outcome.verdict in ("equal", NOT_ENDED, NOT_SIMULATED) and self.latches in ("-", "not judged", 0)
 
 
 class Tools(NamedTuple):
-    """The programs, and the seconds that one of them may take."""
+    """The programs, the seconds that one of them may take, and whether what is synthesized is simulated too."""
 
     program: str
     rtl: str
     ghdl: str
     yosys: str | None
     seconds: float
+    simulates: bool
 
 
 def processes_of(tools: Tools, policy: str, example: Example) -> list[Process]:
@@ -88,6 +89,15 @@ def new_text(tools: Tools, policy: str, example: Example, _: str) -> Text:
     return Text([files_of(frames, run) for run in (Run(1, False), Run(2, True))], netlists.instructions_of(frames.design))
 
 
+def text_alone(tools: Tools, text: str, policy: str, example: Example) -> Text:
+    """A network in a text without any test bench, for which no data is wanted."""
+    if text == "vhdl":
+        _, nodes, files = harness.wired(tools.program, policy, example)
+        return Text([files], [node.events for node in nodes])
+    design = harness.written(tools.rtl, ["--policy", policy, *example.items], example.source)
+    return Text([{"design.vhd": design}], netlists.instructions_of(design))
+
+
 WRITTEN: dict[str, Callable[[Tools, str, Example, str], Text]] = {"vhdl": old_text, "rtl": new_text}
 
 
@@ -95,11 +105,14 @@ def made_of(tools: Tools, text: str, policy: str, example: Example, answer: str)
     """What comes of a network in a text."""
     steps: Sequence[int] = ()
     try:
-        written = WRITTEN[text](tools, policy, example, answer)
+        simulates = tools.simulates
+        written = WRITTEN[text](tools, policy, example, answer) if simulates else text_alone(tools, text, policy, example)
         steps = written.steps
-        outcome = netlists.resimulated(tools.ghdl, written.runs, tools.seconds)
-        outcome = compare_clocks(outcome, harness.clocks_of(tools.program, policy, example))
-        if tools.yosys is None or outcome.verdict != "equal":
+        outcome = Outcome(NOT_SIMULATED, None, [])
+        if simulates:
+            outcome = netlists.resimulated(tools.ghdl, written.runs, tools.seconds)
+            outcome = compare_clocks(outcome, harness.clocks_of(tools.program, policy, example))
+        if tools.yosys is None or outcome.verdict not in ("equal", NOT_SIMULATED):
             return Made(outcome, steps)
         counts, judges = netlists.counted(tools.ghdl, tools.yosys, written.runs[0], tools.seconds)
     except TooLong as error:
@@ -146,6 +159,7 @@ def tools_parser(text: str | None) -> harness.argparse.ArgumentParser:
     parser.add_argument("--policy", choices=POLICIES, default="seq", help="the schedule that the capacities are for (seq)")
     parser.add_argument("--text", choices=TEXTS, help="the text that is synthesized (both)")
     parser.add_argument("--seconds", metavar="NUMBER", type=float, default=600, help="how long a tool may take (600)")
+    parser.add_argument("--counts", action="store_true", help="nothing is simulated")
     return parser
 
 
@@ -157,7 +171,7 @@ def tools_of(words: harness.argparse.Namespace) -> tuple[Tools, str]:
         version += f", and {netlists.version_of(yosys)}"
     else:
         print(f"There is no yosys here (no program {words.yosys}), so nothing is counted.\n")
-    return Tools(program_of(words.compaan), rtl_program_of(words.rtl), ghdl, yosys, words.seconds), version
+    return Tools(program_of(words.compaan), rtl_program_of(words.rtl), ghdl, yosys, words.seconds, not words.counts), version
 
 
 def main() -> int:

@@ -329,14 +329,6 @@ def wrong_bodies() -> Iterator[Fault]:
          "cell_rows/src/cells.rt", no_rows, "        if arrays.len() > 256 {\n            return Err(AllocError);\n        }\n" + no_rows),
     ):  # fmt: skip
         yield Fault(TESTS, [crate, test], what, changed(f"crates/{file}", old, new, ("crates",)))
-    by_threads = (
-        "    if ran {\n        let keeper = Rooms { rooms: &rooms };\n        answer(alloc, nest, inputs, network, &keeper, lists, arrays)\n"
-        "    } else {\n        run_along(nest, points, inputs, network, schedule, &mut state, gate);\n"
-    )
-    unasked = by_threads.replace("if ran {", "if ran && false {").replace("state, gate)", "state, &io_edge::Open)")
-    run_again = other_program("crates/thread_runner/src/run.rt", by_threads, unasked)
-    kept_once = ["--only", "threads", "--share", "4/4"]
-    yield Fault("hostile/limits.py", kept_once, "what the threads found is thrown away, and no gate is asked again", run_again)
     never_less = other_program("crates/cell_rows/src/cells.rt", "self.room = self.room.saturating_sub(grown);", "let _ = grown;")
     far_cells = ["--only", "size", "--share", "10/12"]
     yield Fault("hostile/limits.py", far_cells, "rows of cells that all together have no limit", never_less)

@@ -15,8 +15,7 @@ Every run has a stack of 8 MB, 4 GB of address space and 300 seconds of processo
   announce  certificates that announce much and bring little
   bundle    sources and data of 64 MiB
   threads   64, 63 and 62 processes where each start of a thread is refused in turn, with all later ones: by a shim before the C
-            library, and by the system's own limit on tasks; the same of `load` and of `trace`; on few processors; and the memory of a
-            run by threads beside that of one where none starts
+            library, and by the system's own limit on tasks; the same of `load` and of `trace`; and on few processors
 
 Behind its tables each section prints one of those of its runs that take 2 seconds of a processor, or 256 MB, and how many there were.
 tools/docs/pages.py puts these into docs/SECURITY.md, of a file with the output of all sections.
@@ -767,7 +766,7 @@ def bundle(program: str) -> None:
 
 
 def threads(program: str) -> None:
-    for part in shared([on_processors, refused_by_shim, refused_by_system, kept_once]):
+    for part in shared([on_processors, refused_by_shim, refused_by_system]):
         part(program)
         print()
 
@@ -789,25 +788,6 @@ def on_processors(program: str) -> None:
             print(rows[-1], file=sys.stderr, flush=True)
         os.sched_setaffinity(0, cpus)
     table(["64 processes, by `run`", "Status, first bytes", "s", "MB"], rows)
-
-
-def kept_once(program: str) -> None:
-    """A run keeps each value once: the threads do, or where none starts the run along the schedule. One that threw away what its threads
-    found would keep it twice, to the same answer."""
-    count = 1_000_000
-    source = b"param N; out a; for (i = 0; i < N; i++) a = a + i;"
-    wanted = 0, b"a,%d\n" % (count * (count - 1) // 2), b""
-    with tempfile.TemporaryDirectory() as folder:
-        shim = asking.compiled("shim.c", os.path.join(folder, "shim.so"), "-shared", "-fPIC", "-ldl")
-        by_schedule, by_threads = (
-            asking.ask(program, ["run", f"N={count}"], source, SECONDS, {**os.environ, "LD_PRELOAD": shim, **refused})
-            for refused in ({"HOSTILE_START": "1"}, {})
-        )
-    judge(f"a chain of {count:,} turns, no thread starts", "run", by_schedule, wanted)
-    # half of the values, of 8 bytes each, are left to chance
-    judge(f"a chain of {count:,} turns, by threads", "run", by_threads, wanted, by_schedule.kilobytes + count * 4 // KILO)
-    rows = [[name, megabytes(end)] for name, end in (("no thread starts", by_schedule), ("by threads", by_threads))]
-    table([f"A chain of {count:,} turns, by `run`", "MB"], rows)
 
 
 def grouped(rows: Iterable[tuple[int, str, float]]) -> list[list[object]]:

@@ -32,8 +32,8 @@ from hardware.netlists import instructions_of, table_bits
 from hardware.wiring import Unfit
 
 KERNELS = TOP / "hardware" / "kernels"
-SIZES = ["Text `vhdl`", "Events", "Instructions", "Bits of tables"]
-HEAD = ["Kernel", "Parameters", *SIZES, "Clocks, `sim`", "Run is", "A frame", "{} with stalls", "{}", "Arrays", "s"]
+SIZES = ["`vhdl`", "Events", "Instructions", "Bits of tables"]
+HEAD = ["Kernel", "Parameters", "Policy", *SIZES, "By `sim`", "Run is", "A frame", "{} with stalls", "{}", "Arrays", "s"]
 
 
 @dataclass(frozen=True)
@@ -88,7 +88,7 @@ def row_of(words: argparse.Namespace, ghdl: str, program: str, rtl: str, kernel:
     """The row of a kernel, and its outcome: that of the first run that isn't well."""
     policy = words.policy
     begun = time.monotonic()
-    cells: list[object] = [f"`{kernel.name}`", " ".join(kernel.items), refusal(program, policy, kernel)]
+    cells: list[object] = [f"`{kernel.name}`", " ".join(kernel.items), f"`{policy}`", refusal(program, policy, kernel)]
     sizes: list[object] = ["-"] * 4
     clocks: list[object] = []
     worst = Outcome("equal", None, [])
@@ -103,7 +103,7 @@ def row_of(words: argparse.Namespace, ghdl: str, program: str, rtl: str, kernel:
     except Unfit as error:
         worst = Outcome("not made", None, [str(error)])
     clocks += ["-"] * (3 - len(clocks))
-    of = "netlist" if words.netlist else "text"
+    of = "netlist" if words.netlist else f"text, {words.std}"
     return [*cells, *sizes, of, *clocks, worst.verdict, f"{time.monotonic() - begun:.0f}"], worst
 
 

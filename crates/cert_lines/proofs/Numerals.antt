@@ -1,4 +1,9 @@
--- Numbers and their spelling. All numbers of texts are below 10 ^ 64, which bounds std's lemmas on wide numbers.
+-- Numbers and their spelling: a number's digits give it back, and a numeral is what is written of its value.
+--
+-- The second goes along the digits. The invariant is that the value so far is written as the digits so far, and one
+-- digit more makes it ten times that and the digit, which is written behind (`written_after`). It needs a value above 0,
+-- since of 0 nothing would be written before the next digit: so a numeral with a leading zero is 0 alone (`written_of`).
+-- All numbers of texts are below 10 ^ 64, which bounds std's lemmas on wide numbers. Of longer numerals nothing is said.
 use Rattle.std.proofs.Common.{◌≡◌, inl, inr, ℕ, zero, suc, ◌+◌, ◌-◌, ◌*◌, ◌/◌, ◌%◌, ◌<◌, ◌≤◌, ◌^◌, ◌==◌, ◌&&◌, ◌||◌, ℤ}
 use Rattle.std.proofs.Common.{pos, negsuc, neg_ℤ, Bool, true, false, not, nat_lt, nat_le, List, [], ◌∷◌, ◌++◌, Result}
 use Rattle.std.proofs.Common.{Ok, Err, codes, decimal, drop, length, get_or, append-nil, append_assoc, refl, sym, ap}

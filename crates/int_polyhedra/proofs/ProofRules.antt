@@ -1,4 +1,10 @@
 -- Nothing refuses a proof exactly where it follows its rules.
+--
+-- A step is asked one thing after the other, and the first that is wrong refuses it. So where nothing refuses, each was
+-- asked and found right, which is what the step's rule says, and where the rule holds no question finds anything. A step
+-- adds a row for the rest of the proof, so both directions are for all rows: from no refusal to the rules by induction
+-- over the proof (`refuted_follows`), and back over the derivation (`follows_refuted`). What follows from a proof by its
+-- rules is the matter of Soundness.
 use Rattle.std.proofs.Common.{◌≡◌, ◌==◌, ◌<◌, ◌%◌, ℕ, ℤ, pos, ◌≤ℤ◌, List, [], ◌∷◌, ◌++◌, length, Bool, true}
 use Rattle.std.proofs.Common.{false, not, cond, refl, sym, ap, ◌∙◌, subst, arith, ltb-true}
 use Rattle.std.specs.Prelude.{Option, Some, None, Result, Ok, Err, ◌↔◌, IsOk, All, nat_lt, unsigned_abs, int_lt}

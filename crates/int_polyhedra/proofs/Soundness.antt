@@ -1,4 +1,11 @@
 -- A refuted system has no whole point.
+--
+-- By induction over the proof, for all rows: a point that meets each row meets the row that a step adds, so the rest of
+-- the proof speaks of rows that it meets too (`proof_sound`). A sum whose multipliers aren't negative is at least 0
+-- where its rows are (`sum_met`). A Cut's divisor divides each coefficient of its sum, so at a whole point the sum is the
+-- constant and a multiple of the divisor, and its quotient is at least 0 with the constant's quotient rounded down
+-- (`divided_met`). Of a Split's form and its negation, whose value is -value - 1, a whole point meets one. A
+-- contradictory row is met nowhere. It isn't said that each system without a whole point has a proof.
 use Rattle.std.proofs.Common.{◌≡◌, ◌<◌, ℕ, ℤ, pos, negsuc, ◌+ℤ◌, ◌*ℤ◌, ◌≤ℤ◌, ◌<ℤ◌, List, [], ◌∷◌, ◌++◌, length, map}
 use Rattle.std.proofs.Common.{Bool, true, false, ◌&&◌, cond, refl, sym, ap, ◌∙◌, subst, arith}
 use Rattle.std.specs.Prelude.{Option, Some, None, Result, Ok, Err, OnOk, All}

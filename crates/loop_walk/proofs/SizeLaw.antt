@@ -1,4 +1,10 @@
 -- The count is the size, where it is within its limit and all loops that are entered are too.
+--
+-- Of each part of a body is kept what it does to any count that hasn't passed the limit (`IsMeasured`): it adds the
+-- part's own size, and refuses exactly where the sum passes the limit, given that the part's loops are within theirs.
+-- Two such parts in sequence are one, since a count that has passed the limit stays refused whatever comes
+-- (`measured_then`). So it holds of a loop's turns by induction along the values, and of all bodies by induction over
+-- the tree. Which refusal comes where a loop isn't within its limit isn't told here: only that some does.
 use Rattle.std.proofs.Common.{◌≡◌, ◌<◌, ◌≤◌, ◌+◌, ◌*◌, ℕ, zero, suc, ℤ, pos, ◌+ℤ◌, ◌-ℤ◌, List, [], ◌∷◌, ◌++◌, map}
 use Rattle.std.proofs.Common.{length, refl, sym, ap, ◌∙◌, subst, inl, inr, arith, add-one, suc-mul, length-append}
 use Rattle.std.specs.Prelude.{Bool, true, false, cond, ◌&&◌, Result, Ok, Err, IfOk, ◌↔◌, nat_le}

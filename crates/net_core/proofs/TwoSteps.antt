@@ -41,11 +41,11 @@ apart n wired p q i j e f d ise isf c = (
   λ a b. d (sym (put_writer n wired p i c e ise a) ∙ put_writer n wired q j c f isf b),
 )
 
-drop_append : {T : Type 0} (q l : List T) → 0 < length q → drop 1 (q ++ l) ≡ drop 1 q ++ l
+pub drop_append : {T : Type 0} (q l : List T) → 0 < length q → drop 1 (q ++ l) ≡ drop 1 q ++ l
 drop_append [] l h = absurd (omega arith)
 drop_append (x ∷ q) l h = refl
 
-front_append : {T : Type 0} (q l : List T) → 0 < length q → front (q ++ l) ≡ front q
+pub front_append : {T : Type 0} (q l : List T) → 0 < length q → front (q ++ l) ≡ front q
 front_append [] l h = absurd (omega arith)
 front_append (x ∷ q) l h = refl
 

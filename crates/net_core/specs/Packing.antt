@@ -37,9 +37,11 @@ rows_of zero refs = []
 rows_of (suc n) [] = slot_bytes Zero ∷ rows_of n []
 rows_of (suc n) (r ∷ refs) = slot_bytes r ∷ rows_of n refs
 
+-- the references that these fields hold
 abbrev pub refs_in : Inside → List Ref
 refs_in a = refs_at a.len a.zeros a.slots
 
+-- the fields of a list of at most eight references
 abbrev pub inside_of : List Ref → Inside
 inside_of refs = record { len = length refs; zeros = zeros_of refs; slots = rows_of 8 refs }
 

@@ -1,7 +1,7 @@
 -- Items of lists at a place, as options: of joined lists, of fronts and ends, and what holds of each. Std reads an
 -- item with `get_or`, which asks for a default; these go by `slice_get`.
 use Rattle.std.proofs.Common.{◌≡◌, ℕ, zero, suc, ◌+◌, ◌-◌, ◌<◌, ◌≤◌, List, [], ◌∷◌, ◌++◌, length, take, drop, get_or, replicate}
-use Rattle.std.proofs.Common.{Some, slice_get, All, Contains, flat_map, map, sum_by, refl, ap, ◌∙◌, sym, subst, arith, add-one}
+use Rattle.std.proofs.Common.{Some, slice_get, slice_set, All, Contains, flat_map, map, sum_by, refl, ap, ◌∙◌, sym, subst, arith, add-one}
 use Rattle.std.proofs.Common.{length-drop, ◌⊎◌, inl, inr, Bool, false, None}
 use Rattle.std.specs.List.{AllZip, find, range_with_len}
 use Rattle.std.proofs.lemmas.List.Elements.{All-nil, All-cons, All-append, Contains-append_right}
@@ -49,6 +49,22 @@ slice_get_push-cases (z ∷ xs) y (suc k) x is = elim (slice_get_push-cases xs y
   | inl before ↦ inl before
   | inr last ↦ inr (ap suc last.0, last.1)
 ]
+
+-- a list with one item set
+pub slice_get-set_same : {A : Type 0} (xs : List A) (i : ℕ) (y : A) → i < length xs
+    → slice_get (slice_set xs i y) i ≡ Some y
+slice_get-set_same [] i y lt = absurd (omega arith)
+slice_get-set_same (x ∷ xs) zero y lt = refl
+slice_get-set_same (x ∷ xs) (suc i) y lt = slice_get-set_same xs i y (omega arith)
+
+pub slice_get-set_other : {A : Type 0} (xs : List A) (i j : ℕ) (y : A) → (j ≡ i → ⊥)
+    → slice_get (slice_set xs i y) j ≡ slice_get xs j
+slice_get-set_other [] zero j y other = refl
+slice_get-set_other [] (suc i) j y other = refl
+slice_get-set_other (x ∷ xs) zero zero y other = absurd (other refl)
+slice_get-set_other (x ∷ xs) zero (suc j) y other = refl
+slice_get-set_other (x ∷ xs) (suc i) zero y other = refl
+slice_get-set_other (x ∷ xs) (suc i) (suc j) y other = slice_get-set_other xs i j y (λ e. other (ap suc e))
 
 -- the parts of a list with a first item
 pub same_head : {A : Type 0} (x y : A) (xs ys : List A) → x ∷ xs ≡ y ∷ ys → x ≡ y

@@ -1,4 +1,10 @@
 -- The loops that two lists have in common, and the order of iteration vectors and of points.
+--
+-- Two points are compared by the values of the loops that are round both, the outermost first, and then by the numbers
+-- of their statements. Along the common loops: a value that is less or greater decides, and where values are the same
+-- what the inner ones decide goes on to hold (`decided`). The vectors are at least as long as there are common loops, so
+-- no value is missing; values further in are not looked at. Common loops are counted from the outermost: loops that are
+-- the same behind a first difference don't count.
 use Rattle.std.proofs.Common.{◌≡◌, ◌<◌, ◌≤◌, ◌+◌, ℕ, zero, suc, ℤ, ◌<ℤ◌, List, [], ◌∷◌, ◌++◌, length, take, Bool, true}
 use Rattle.std.proofs.Common.{false, cond, inl, inr, refl, sym, ap, ◌∙◌, subst, arith}
 use Rattle.std.specs.Prelude.{◌==◌, min, nat_lt, Some, slice_get}

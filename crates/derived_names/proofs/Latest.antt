@@ -15,7 +15,7 @@ use Rattle.net_core.specs.Names.{latest_gets, with_get}
 use Rattle.net_core.specs.Shape.{is_get}
 use Rattle.net_core.proofs.EventCounts.{count_next, count_none}
 use Rattle.net_core.proofs.Latest.{length-latest_gets}
-use Rattle.derived_names.proofs.Lists.{get_set_other, get_set_same}
+use Rattle.plain_data.proofs.Lists.{slice_get-set_other, slice_get-set_same}
 
 -- Get number m of channel c is into slot x, and no later Get before place end is, nor is any of another channel.
 pub record IsLastInto (n : Net) (p c m x end : ℕ) : Type 0 where
@@ -47,16 +47,16 @@ module _ (n : Net) (p c m x end : ℕ) (is : IsLastInto n p c m x end) where
               | inl here ↦
                   let into : slot ≡ x = is.this k slot this here in
                   ap (λ s. slice_get (slice_set slots s new) x) into
-                  ∙ get_set_same slots x new (omega (arith, is.there, length-latest_gets n p k))
+                  ∙ slice_get-set_same slots x new (omega (arith, is.there, length-latest_gets n p k))
                   ∙ ap (λ b. Some (Some (b, count_by (is_get b) (take k (n.script p))))) (sym same)
                   ∙ ap (λ i. Some (Some (c, i))) here
               | inr past ↦
                   let more : m < count_by (is_get c) (take k (n.script p)) = omega (arith, counted, one) in
-                  get_set_other slots slot x new (λ into. is.later k slot below this more (sym into)) ∙ before more
+                  slice_get-set_other slots slot x new (λ into. is.later k slot below this more (sym into)) ∙ before more
             ]
         | inr apart ↦
             let none = ap (λ b. cond {A = ℕ} b 1 0) (ne_eqb c d apart) in
-            get_set_other slots slot x new (λ into. is.other k d slot e (λ same. apart (sym same)) (sym into))
+            slice_get-set_other slots slot x new (λ into. is.other k d slot e (λ same. apart (sym same)) (sym into))
             ∙ before (omega (arith, counted, none))
       ]
 

@@ -1,7 +1,6 @@
--- Joined lists of which one part alone has items, lists with one item replaced, and what follows a front.
-use Rattle.std.proofs.Common.{◌≡◌, ℕ, zero, suc, ◌+◌, ◌<◌, ◌≤◌, Some, List, [], ◌∷◌, ◌++◌, length, slice_get}
+-- Joined lists of which one part alone has items.
+use Rattle.std.proofs.Common.{◌≡◌, ℕ, zero, suc, ◌+◌, ◌<◌, ◌≤◌, List, [], ◌++◌}
 use Rattle.std.proofs.Common.{refl, ap, ◌∙◌, inl, inr, arith}
-use Rattle.std.specs.Prelude.{slice_set}
 use Rattle.std.specs.List.{flat_map, range_with_len}
 use Rattle.std.proofs.lemmas.Bool.{cases_eq}
 use Rattle.std.proofs.lemmas.List.{append-nil}
@@ -30,21 +29,3 @@ one_joined f k other a (suc m) le lt =
           ∙ ap (λ xs. xs ++ flat_map f (range_with_len (a + 1) m)) (other a ne)
           ∙ one_joined f k other (a + 1) m (omega arith) (omega arith)
     ]
-
--- One item replaced
-
-pub get_set_same : {X : Type 0} (xs : List X) (i : ℕ) (y : X) → i < length xs → slice_get (slice_set xs i y) i ≡ Some y
-get_set_same [] i y lt = absurd (omega arith)
-get_set_same (x ∷ xs) zero y lt = refl
-get_set_same (x ∷ xs) (suc i) y lt = get_set_same xs i y (omega arith)
-
-pub get_set_other : {X : Type 0} (xs : List X) (i j : ℕ) (y : X) → (j ≡ i → ⊥)
-    → slice_get (slice_set xs i y) j ≡ slice_get xs j
-get_set_other [] zero j y ne = refl
-get_set_other [] (suc i) j y ne = refl
-get_set_other (x ∷ xs) zero zero y ne = absurd (ne refl)
-get_set_other (x ∷ xs) zero (suc j) y ne = refl
-get_set_other (x ∷ xs) (suc i) zero y ne = refl
-get_set_other (x ∷ xs) (suc i) (suc j) y ne = get_set_other xs i j y (λ e. ne (ap suc e))
-
--- What follows a front

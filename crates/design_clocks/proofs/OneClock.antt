@@ -19,14 +19,7 @@ use Rattle.net_core.specs.Machine.{Net, Local, State, Rule, next, can_come, enab
 use Rattle.net_core.specs.Machine.{local_after, queue_after, after_event, step, after}
 use Rattle.net_core.specs.Shape.{is_get, is_put, IsWired}
 use Rattle.net_core.proofs.EventCounts.{replaced_same, replaced_other}
-
-drop_append : {T : Type 0} (q l : List T) → 0 < length q → drop 1 (q ++ l) ≡ drop 1 q ++ l
-drop_append [] l h = absurd (omega arith)
-drop_append (x ∷ q) l h = refl
-
-front_append : {T : Type 0} (q l : List T) → 0 < length q → front (q ++ l) ≡ front q
-front_append [] l h = absurd (omega arith)
-front_append (x ∷ q) l h = refl
+use Rattle.net_core.proofs.TwoSteps.{drop_append, front_append}
 
 none_either : (o : Option Event) (b : Bool) → o ≡ None → (if b then o else None) ≡ None
 none_either o true none = none

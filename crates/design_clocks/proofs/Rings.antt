@@ -12,7 +12,7 @@ use Rattle.std.proofs.Common.{length-append, length-set}
 use Rattle.std.proofs.lemmas.Bool.{and_parts, cases_eq, cases_lt, le-ltb}
 use Rattle.std.proofs.lemmas.List.{length-replicate}
 use Rattle.net_core.specs.Machine.{Net, Rule}
-use Rattle.plain_data.proofs.Lists.{slice_get-append_cons, slice_get-append_left}
+use Rattle.plain_data.proofs.Lists.{slice_get-append_cons, slice_get-append_left, slice_get-set_other, slice_get-set_same}
 use Rattle.design_clocks.specs.Registers.{Controls, after_edges, asks, event_at, fifo_after, token_for, offers}
 use Rattle.design_clocks.specs.Rings.{Holds, Ring, empty_ring, next_place, place_of, ring_after, ring_after_edges, ring_step}
 
@@ -106,22 +106,6 @@ module _ (capacity : ℕ) where
             ]
       ]
 
--- One item set
-
-set_same : {X : Type 0} (xs : List X) (i : ℕ) (y : X) → i < length xs → slice_get (slice_set xs i y) i ≡ Some y
-set_same [] i y lt = absurd (omega arith)
-set_same (x ∷ xs) zero y lt = refl
-set_same (x ∷ xs) (suc i) y lt = set_same xs i y (omega arith)
-
-set_other : {X : Type 0} (xs : List X) (i j : ℕ) (y : X) → (j ≡ i → ⊥)
-    → slice_get (slice_set xs i y) j ≡ slice_get xs j
-set_other [] zero j y other = refl
-set_other [] (suc i) j y other = refl
-set_other (x ∷ xs) zero zero y other = absurd (other refl)
-set_other (x ∷ xs) zero (suc j) y other = refl
-set_other (x ∷ xs) (suc i) zero y other = refl
-set_other (x ∷ xs) (suc i) (suc j) y other = set_other xs i j y (λ e. other (ap suc e))
-
 -- An edge
 
 module _ {T : Type 0} (capacity : ℕ) where
@@ -159,12 +143,12 @@ module _ {T : Type 0} (capacity : ℕ) where
               | inl last ↦
                   ap (slice_get (slice_set ring.places ring.free (Some x)))
                   (ap (place_of capacity ring.oldest) last ∙ sym h.free)
-                  ∙ set_same ring.places ring.free (Some x) free_there
+                  ∙ slice_get-set_same ring.places ring.free (Some x) free_there
                   ∙ ap (option_map Some)
                   (sym (ap (slice_get (queue ++ x ∷ [])) last ∙ slice_get-append_cons queue x []))
               | inr other ↦
                   let before : i < length queue = omega arith in
-                  set_other ring.places ring.free (place_of capacity ring.oldest i) (Some x)
+                  slice_get-set_other ring.places ring.free (place_of capacity ring.oldest i) (Some x)
                   (λ e. places_differ capacity ring.oldest i (length queue) h.oldest before room (e ∙ h.free))
                   ∙ h.tokens i before
                   ∙ ap (option_map Some) (sym (slice_get-append_left queue (x ∷ []) i before))

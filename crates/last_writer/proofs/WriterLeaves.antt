@@ -9,7 +9,7 @@ use Rattle.std.specs.Prelude.{Some, Contains, nat_lt, slice_get}
 use Rattle.std.specs.List.{filter, flat_map}
 use Rattle.std.specs.Option.{option_map}
 use Rattle.std.proofs.lemmas.Bool.{eqb-true}
-use Rattle.std.proofs.lemmas.List.{append_assoc, length-map, map-append}
+use Rattle.std.proofs.lemmas.List.{append_assoc, drop_at, length-map, map-append, take_at}
 use Rattle.std.proofs.lemmas.List.Elements.{All-contains}
 use Rattle.std.proofs.lemmas.Option.{same_Some, slice_get-map}
 use Rattle.affine_core.specs.declared.form.Form.{Form}
@@ -41,12 +41,14 @@ use Rattle.source_tree.specs.Systems.{outside_systems, reader_place, with_rows, 
 use Rattle.source_tree.proofs.Refutations.{length-AreRefuted}
 use Rattle.source_tree.specs.References.{occurrence_of}
 use Rattle.stride_trees.specs.Contexts.{outside_cell_systems, IsPlaceIn}
-use Rattle.stride_trees.specs.Problem.{problem_reads, problem_rows, problem_write, problem_writes, told_read, told_write}
-use Rattle.stride_rows.specs.Sources.{divided_form, places_behind}
+use Rattle.stride_trees.specs.Problem.{problem_rows, problem_write, told_read, told_write}
+use Rattle.stride_rows.specs.Sources.{divided_form}
 use Rattle.stride_trees.specs.Strides.{depth_of_write, read_of, write_of}
 use Rattle.stride_trees.specs.declared.strides.Strides.{Strides}
 use Rattle.stride_trees.proofs.ProblemBounds.{are_fitting, AreFitting}
+use Rattle.stride_trees.proofs.LeafConversion.{length-differ_rows}
 use Rattle.stride_trees.proofs.Lists.{refuted_apart, AreRefutedBoth}
+use Rattle.stride_trees.proofs.SystemConversion.{reads_count}
 
 -- The writer of a number
 
@@ -177,14 +179,6 @@ module _ (w : Answered) (here : ℕ) (rest : List RowExpr) (number : ℕ) (place
   pub is_place : IsPlaceIn c (depth_of_write s) place
   is_place = record { deep = deep; over = j.over; within = j.within }
 
-  differ_count : (writes reads place : List Form) (c : Context) → length writes ≡ length reads
-      → length (map (λ row. with_rows c (row ∷ [])) (differ_rows writes reads place)) ≡ 2 * length writes
-  differ_count [] [] place c e = omega arith
-  differ_count [] (read ∷ reads) place c e = absurd (omega (arith, e))
-  differ_count (write ∷ writes) [] place c e = absurd (omega (arith, e))
-  differ_count (write ∷ writes) (read ∷ reads) place c e =
-      omega (arith, differ_count writes reads place c (omega (arith, e)))
-
   pub place_count : length first.front ≡ length s.write.statement.now.rows + 2 * length s.write.access.now.subscripts
   place_count =
       omega (
@@ -193,45 +187,20 @@ module _ (w : Answered) (here : ℕ) (rest : List RowExpr) (number : ℕ) (place
         length-append (outside_systems c u' place) (cell_systems r' c u' place),
         length-map (problem_rows u.statement.rows) (λ row. with_rows c (below_zero (at_place row place) ∷ [])),
         length-map u.statement.rows divided_form,
-        differ_count (problem_writes u.access.subscripts)
-            (problem_reads c.vars (length r.statement.loops) x.places u.access.subscripts r.access.subscripts) place c
+        length-map (differ_rows u'.access.subscripts r'.access.subscripts place) (λ row. with_rows c (row ∷ [])),
+        length-differ_rows u'.access.subscripts r'.access.subscripts place
             (length-map u.access.subscripts problem_write
-            ∙ sym (reads_count c.vars (length r.statement.loops) x.places u.access.subscripts r.access.subscripts fits.even)),
+            ∙ reads_count c.vars (length r.statement.loops) x.places u.access.subscripts r.access.subscripts fits.even),
         length-map u.access.subscripts problem_write,
-      ) where
-        reads_count : (vars depth : ℕ) (places : List ℕ) (writes reads : List Form) → length writes ≡ length reads
-            → length (problem_reads vars depth places writes reads) ≡ length writes
-        reads_count vars depth places [] [] e = refl
-        reads_count vars depth places [] (read ∷ reads) e = absurd (omega (arith, e))
-        reads_count vars depth places (write ∷ writes) [] e = absurd (omega (arith, e))
-        reads_count vars depth places (write ∷ writes) (read ∷ reads) e =
-            ap suc (reads_count vars depth (places_behind write places) writes reads (omega (arith, e)))
+      )
 
   -- the cuts
-  take_front : (xs ys : List Proof) (k : ℕ) → length xs ≡ k → take k (xs ++ ys) ≡ xs
-  take_front [] ys zero e = take_none ys where
-    take_none : (ys : List Proof) → take 0 ys ≡ []
-    take_none [] = refl
-    take_none (y ∷ ys) = refl
-  take_front [] ys (suc k) e = absurd (omega (arith, e))
-  take_front (x ∷ xs) ys zero e = absurd (omega (arith, e))
-  take_front (x ∷ xs) ys (suc k) e = ap (λ zs. x ∷ zs) (take_front xs ys k (omega (arith, e)))
-
-  drop_front : (xs ys : List Proof) (k : ℕ) → length xs ≡ k → drop k (xs ++ ys) ≡ ys
-  drop_front [] ys zero e = drop_none ys where
-    drop_none : (ys : List Proof) → drop 0 ys ≡ ys
-    drop_none [] = refl
-    drop_none (y ∷ ys) = refl
-  drop_front [] ys (suc k) e = absurd (omega (arith, e))
-  drop_front (x ∷ xs) ys zero e = absurd (omega (arith, e))
-  drop_front (x ∷ xs) ys (suc k) e = drop_front xs ys k (omega (arith, e))
-
   module _ (cells : ℕ) (cells_are : cells ≡ cell_count u) where
     pub front_is : take cells told ≡ first.front
-    front_is = ap (take cells) first.is ∙ take_front first.front first.back cells (place_count ∙ sym cells_are)
+    front_is = ap (take cells) first.is ∙ take_at first.front first.back cells (place_count ∙ sym cells_are)
 
     pub back_is : drop cells told ≡ first.back
-    back_is = ap (drop cells) first.is ∙ drop_front first.front first.back cells (place_count ∙ sym cells_are)
+    back_is = ap (drop cells) first.is ∙ drop_at first.front first.back cells (place_count ∙ sym cells_are)
 
     pub cells_inside : cells ≤ length told
     cells_inside = omega (arith, ap length first.is, length-append first.front first.back, place_count, cells_are)

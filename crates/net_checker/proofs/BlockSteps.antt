@@ -7,7 +7,7 @@
 -- stands in a refusal alone, so it doesn't matter at which number a part begins. From the opening state the whole
 -- schedule is refused nowhere, and what is wrong is a process that hasn't ended.
 use Rattle.std.proofs.Common.{◌≡◌, ℕ, ◌+◌, ◌<◌, suc, true, Option, Some, None, List, [], ◌∷◌, ◌++◌, length, take, get_or}
-use Rattle.std.proofs.Common.{refl, sym, ap, ◌∙◌}
+use Rattle.std.proofs.Common.{slice_get, refl, sym, ap, ◌∙◌, subst}
 use Rattle.std.specs.Option.{option_or}
 use Rattle.std.proofs.lemmas.List.{append-nil, take_more}
 use Rattle.std.proofs.lemmas.Grind.{flat_map-append}
@@ -18,17 +18,21 @@ use Rattle.script_blocks.specs.declared.blocks.BlockPart.TheVariants.{Item}
 use Rattle.script_blocks.specs.declared.blocks.BlockPart.TheViews.{Repeat}
 use Rattle.script_blocks.specs.Expansion.{part_expansion, parts_expansion, repeated}
 use Rattle.script_blocks.proofs.Expansions.{expansion_item, expansion_repeat}
-use Rattle.script_blocks.proofs.Repetitions.{repeated_more, repeated_none}
+use Rattle.script_blocks.proofs.Repetitions.{repeated_more}
+use Rattle.net_core.specs.declared.network.Event.{Event}
+use Rattle.net_core.specs.declared.network.Event.TheVariants.{Fire}
 use Rattle.net_core.specs.declared.network.Network.{Network}
-use Rattle.net_core.specs.Cuts.{Cut, advanced, cut_after, opening, positions}
-use Rattle.net_core.specs.Machine.{Net, enabled, net_of, start, step}
+use Rattle.net_core.specs.declared.refs.Ref.{Ref}
+use Rattle.net_core.specs.Cuts.{Cut, advanced, can_come_at, cut_after, opening, positions}
+use Rattle.net_core.specs.Machine.{Net, enabled, net_of, next, start, step}
 use Rattle.net_core.specs.Rules.{tags}
-use Rattle.net_core.proofs.Positions.{positions_step}
+use Rattle.net_core.proofs.Positions.{enabled_as_cut, positions_step}
 use Rattle.net_checker.specs.declared.tag_state.TagState.{TagState}
 use Rattle.net_checker.specs.Choice.{first_below}
-use Rattle.net_checker.specs.Entries.{entry_refusal, entries_refusal, schedule_refusal, unended}
+use Rattle.net_checker.specs.Entries.{entry_refusal, entries_refusal, event_refusal, schedule_refusal, unended}
 use Rattle.net_checker.specs.Schedules.{LeadsTo}
-use Rattle.net_checker.specs.TagStates.{cut_in, state_of}
+use Rattle.net_checker.specs.TagStates.{IsTagState, cut_in, state_of}
+use Rattle.net_checker.proofs.Walk.{IsWalked, entry_event, walked_on}
 
 none_first : {A : Type 0} (a b : Option A) → option_or a b ≡ None → a ≡ None
 none_first None b h = refl
@@ -83,6 +87,14 @@ module _ (n : Nest) (net : Net) where
     cut = ap positions run ∙ positions_step net tags (state_of net a) p on;
   }
 
+  -- so does an event that may come, where the event itself isn't refused
+  pub leads_by_event : (p : ℕ) (e : Event) (a b : TagState) → IsTagState net a → enabled net (state_of net a) p ≡ true
+      → next net (state_of net a) p ≡ Some e → ((i : ℕ) → event_refusal n net i p (cut_in a p) (Some e) ≡ None)
+      → state_of net b ≡ step net tags (state_of net a) p → LeadsTo n net (p ∷ []) a b
+  leads_by_event p e a b state on is fine run =
+      leads_by_step p a b on
+      (λ i. entry_event n net (state_of net a) state.counted p i e on is ∙ fine i) run
+
   -- parts lead on by one part more
   pub leads_part : (parts : List (BlockPart ℕ)) (i : ℕ) (part : BlockPart ℕ) (a b c : TagState) → i < length parts
       → part ≡ get_or parts i part → LeadsTo n net (parts_expansion (take i parts)) a b
@@ -113,6 +125,12 @@ module _ (n : Nest) (net : Net) where
       leads_as (repeated count (parts_expansion body.parts)) (part_expansion part) a b
       (sym (ap part_expansion is ∙ expansion_repeat count body)) leads
 
+-- a process whose next event is a Fire may go on
+pub fire_enabled : (n : Net) (s : TagState) → IsTagState n s → (p : ℕ) (refs : List Ref)
+    → next n (state_of n s) p ≡ Some (Fire refs) → enabled n (state_of n s) p ≡ true
+fire_enabled n s state p refs is =
+    enabled_as_cut n (state_of n s) state.counted p ∙ ap (can_come_at n (cut_in s)) is
+
 -- what is wrong with a schedule that leads from the opening state is a process that hasn't ended
 pub leads_to_end : (n : Nest) (network : Network) (schedule : List ℕ) (a b : TagState)
     → state_of (net_of network) a ≡ start (net_of network) → LeadsTo n (net_of network) schedule a b
@@ -129,3 +147,14 @@ leads_to_end n network schedule a b run leads =
     sym (ap (λ o.
     option_or o (first_below (unended net (cut_after opening schedule)) (length network.processes))) fine
     ∙ ap (λ k. first_below (unended net k) (length network.processes)) there)
+
+-- the walk goes on past an entry that leads on, and stays where it is in a state that stays
+module _ (n : Nest) (net : Net) (schedule : List ℕ) (s s' : TagState) (i : ℕ) (w : IsWalked n net schedule s i) where
+  pub walked_by : (p : ℕ) → slice_get schedule i ≡ Some p → LeadsTo n net (p ∷ []) s s' → IsTagState net s'
+      → IsWalked n net schedule s' (suc i)
+  walked_by p at leads state =
+      walked_on n net schedule s s' i p w at (none_first (entry_refusal n net (cut_in s) i p) None (leads.fine i))
+      leads.cut state
+
+  pub walked_same : s' ≡ s → IsWalked n net schedule s' i
+  walked_same same = subst (λ (t : TagState). IsWalked n net schedule t i) (sym same) w

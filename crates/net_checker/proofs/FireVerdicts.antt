@@ -6,7 +6,7 @@
 -- exact table has the tag of the last writer for each read and turn (`source_found`). So each reference
 -- is tested for the same name and source, and the first that is refused is the same. It rests on the
 -- network's fitting the nest: a fire has a point left, and as many references as reads.
-use Rattle.std.proofs.Common.{◌≡◌, ℕ, zero, suc, ◌+◌, ◌<◌, ◌≤◌, ℤ, true, Option, Some, None, List, length, take}
+use Rattle.std.proofs.Common.{◌≡◌, ℕ, zero, suc, ◌+◌, ◌<◌, ◌≤◌, ℤ, true, false, Option, Some, None, List, length, take}
 use Rattle.std.proofs.Common.{slice_get, refl, sym, ap, ap₂, ◌∙◌, inl, inr, arith}
 use Rattle.std.specs.List.{sum_by}
 use Rattle.std.specs.Prelude.{if◌then◌else◌}
@@ -38,7 +38,7 @@ use Rattle.net_core.specs.Names.{Name}
 use Rattle.net_checker.specs.Lookups.{source_in, refused_reference}
 use Rattle.std.proofs.lemmas.Bool.{cases_lt}
 use Rattle.std.proofs.lemmas.Option.{slice_get_within}
-use Rattle.net_checker.proofs.Choices.{first_found, first_none}
+use Rattle.net_checker.proofs.Choices.{first_found, first_none, none_first}
 use Rattle.net_checker.proofs.FitsShape.{turn_left}
 use Rattle.sanlp.proofs.NestFacts.{few_read_count, points_length}
 use Rattle.net_checker.proofs.Walk.{entry_event}
@@ -126,6 +126,21 @@ pub reference_found : (points : List (List (List ℤ))) (table : List (List (Opt
 reference_found points table read turn slots i refs j r x is before wrong =
     sym (first_found (at_reference points table read turn slots i refs) (length refs) j x before
     (slice_get_within refs j r is) (sym (reference_judged points table read turn slots i refs j r is) ∙ wrong))
+
+-- one that doesn't is refused, and so the fire
+pub reference_refused : (points : List (List (List ℤ))) (table : List (List (Option Tag))) (read turn : ℕ)
+    (slots : List (Option Tag)) (i : ℕ) (refs : List Ref) (j : ℕ) (r : Ref) → slice_get refs j ≡ Some r
+    → is_wanted (name_of slots r) (source_in table (read + j) turn) ≡ false
+    → first_below (λ k. refused_reference points table read turn slots i k (slice_get refs k)) (length refs) ≡ None → ⊥
+reference_refused points table read turn slots i refs j r is wrong none =
+    let source = source_in table (read + j) turn in
+    let here : Some (refusal.Tag i (seen_of points (name_of slots r)) (wanted_of points source)) ≡ None =
+    sym (ap (λ b. if b then None
+    else Some (refusal.Tag i (seen_of points (name_of slots r)) (wanted_of points source))) wrong)
+    ∙ reference_judged points table read turn slots i refs j r is
+    ∙ none_first (at_reference points table read turn slots i refs) (length refs) none j
+    (slice_get_within refs j r is) in
+    cc
 
 pub references_fine : (points : List (List (List ℤ))) (table : List (List (Option Tag))) (read turn : ℕ)
     (slots : List (Option Tag)) (i : ℕ) (refs : List Ref)

@@ -4,7 +4,7 @@
 -- it names, what the definition would still refuse from these positions on is what it would refuse of the whole
 -- schedule, and i events were made. An entry that isn't refused is enabled, so the machine steps and all of it holds
 -- again. Since events are fewer than 2^32, so are the entries that are ever judged, however long the schedule is.
-use Rattle.std.proofs.Common.{◌≡◌, ℕ, zero, suc, ◌+◌, ◌<◌, ◌≤◌, ◌^◌, true, false, cond, Some, None, List, []}
+use Rattle.std.proofs.Common.{◌≡◌, ℕ, zero, suc, ◌+◌, ◌<◌, ◌≤◌, ◌^◌, true, false, cond, Option, Some, None, List, []}
 use Rattle.std.proofs.Common.{◌∷◌, length, drop, slice_get, refl, sym, ap, ◌∙◌}
 use Rattle.std.proofs.Common.{drop_of_length-le, inl, inr, arith, lt-ltb}
 use Rattle.std.proofs.lemmas.Bool.{cases_Bool, cases_lt, cases_eq, le-ltb}
@@ -15,11 +15,10 @@ use Rattle.sanlp.specs.declared.nest.Tag.{Tag}
 use Rattle.net_core.specs.declared.network.Event.{Event}
 use Rattle.net_core.specs.declared.network.Network.{Network}
 use Rattle.net_core.specs.Cuts.{Cut, advanced, cut_after, opening, positions, IsCounted}
-use Rattle.net_core.specs.Machine.{Net, State, net_of, start, next, enabled, step}
-use Rattle.net_core.specs.Rules.{tags}
+use Rattle.net_core.specs.Machine.{Net, State, net_of, start, next, enabled}
 use Rattle.net_core.specs.Shape.{events_below}
 use Rattle.net_core.proofs.CutOrder.{advanced_here, advanced_there}
-use Rattle.net_core.proofs.Positions.{enabled_as_cut, enabled_inside, positions_step}
+use Rattle.net_core.proofs.Positions.{enabled_as_cut, enabled_inside}
 use Rattle.net_checker.specs.declared.verdict.Refusal.{Refusal}
 use Rattle.net_checker.specs.declared.verdict.Refusal.TheVariants as refusal
 use Rattle.net_checker.specs.Choice.{first_below}
@@ -107,13 +106,11 @@ entry_short n net schedule s i w =
     )
 
 -- the walk goes on past an entry that isn't refused
-pub walked_more : (n : Nest) (net : Net) (schedule : List ℕ) (s s' : TagState) (i p : ℕ) → IsWalked n net schedule s i
+pub walked_on : (n : Nest) (net : Net) (schedule : List ℕ) (s s' : TagState) (i p : ℕ) → IsWalked n net schedule s i
     → slice_get schedule i ≡ Some p → entry_refusal n net (cut_in s) i p ≡ None
-    → state_of net s' ≡ step net tags (state_of net s) p → IsTagState net s' → IsWalked n net schedule s' (suc i)
-walked_more n net schedule s s' i p w at fine run state =
+    → cut_in s' ≡ advanced (cut_in s) p → IsTagState net s' → IsWalked n net schedule s' (suc i)
+walked_on n net schedule s s' i p w at fine moves state =
     let on = enabled_where_none n net (state_of net s) w.state.counted p i fine in
-    let moves : cut_in s' ≡ advanced (cut_in s) p =
-    ap positions run ∙ positions_step net tags (state_of net s) p on in
     let there : p < net.processes =
     elim (cases_lt p net.processes) [
       | inl lt ↦ lt
@@ -146,7 +143,7 @@ walked_start n net schedule s run state = record {
 module _ (n : Nest) (network : Network) (schedule : List ℕ) (s : TagState) (i : ℕ)
     (w : IsWalked n (net_of network) schedule s i) where
   -- an entry is refused
-  pub entry_found : (p : ℕ) (x : Refusal) → slice_get schedule i ≡ Some p
+  entry_found : (p : ℕ) (x : Refusal) → slice_get schedule i ≡ Some p
       → entry_refusal n (net_of network) (cut_in s) i p ≡ Some x → Some x ≡ schedule_refusal n network schedule
   unfolding schedule_refusal
   entry_found p x at is =
@@ -157,6 +154,13 @@ module _ (n : Nest) (network : Network) (schedule : List ℕ) (s : TagState) (i 
       ∙ ap (λ o. option_or o later) is in
       sym (ap (λ o.
       option_or o (first_below (unended net (cut_after opening schedule)) (length network.processes))) walk)
+
+  -- an entry that can't be let pass
+  pub entry_wrong : (p : ℕ) (o : Option Refusal) → slice_get schedule i ≡ Some p
+      → o ≡ entry_refusal n (net_of network) (cut_in s) i p
+      → (entry_refusal n (net_of network) (cut_in s) i p ≡ None → ⊥) → o ≡ schedule_refusal n network schedule
+  entry_wrong p None at is wrong = absurd (wrong (sym is))
+  entry_wrong p (Some x) at is wrong = entry_found p x at (sym is)
 
   -- at the schedule's end what is wrong is a process that hasn't ended
   pub at_end : length schedule ≤ i

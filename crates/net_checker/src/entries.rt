@@ -1,9 +1,8 @@
-ghost use Rattle.std.specs.Bool.{OnTrue};
-ghost use Rattle.std.specs.Prelude.{◌≡◌, ◌<◌, ◌+◌, ◌^◌, ℕ, ℤ, List, [], ◌∷◌, None, length, slice_get, true, IfOk, IsTrue, OnOk};
+ghost use Rattle.std.specs.Prelude.{◌≡◌, ◌↔◌, ◌<◌, ◌+◌, ◌^◌, ℕ, ℤ, List, [], ◌∷◌, None, length, slice_get, IfOk, IsFalse, IsTrue, OnOk};
 ghost use Rattle.sanlp.specs.Points.{points_of};
 ghost use Rattle.source_tree.specs.Sources.{sources_of};
 ghost use Rattle.net_core.specs.Cuts.{positions};
-ghost use Rattle.net_core.specs.Machine.{enabled, net_of};
+ghost use Rattle.net_core.specs.Machine.{net_of};
 ghost use Rattle.net_core.specs.Names.{name_of};
 ghost use Rattle.net_core.specs.Rules.{vector_at};
 ghost use Rattle.net_core.specs.Shape.{FitsNumbers};
@@ -203,8 +202,7 @@ fn names_are_wanted(
     refs: &Refs,
 ) -> bool
     requires { first_read + length refs.now < 2 ^ 64 }
-    ensures { OnTrue result
-        ((points : List (List (List ℤ))) (entry : ℕ) → first_below
+    ensures { (points : List (List (List ℤ))) (entry : ℕ) → (IsTrue result ↔ first_below
         (λ j. refused_reference points table.now.of first_read turn (slots_in slots.now) entry j
         (slice_get refs.now j)) (length refs.now) ≡ None) }
 {
@@ -217,33 +215,56 @@ fn names_are_wanted(
     true
 }
 
-// Whether an entry of the schedule is fine in this state. A refusal is a large value, so it is made only where one is.
-fn is_fine(
+// Makes one entry of the schedule, if it is fine. It answers whether it is. A refusal is a large value, so it is made only
+// where one is.
+fn step_if_fine(
     nest: &Nest,
     network: &Network,
     table: &SourceTable,
-    state: &TagState,
+    state: &mut TagState,
     process: u32,
-) -> bool
+) -> Result<bool, AllocError>
     requires fits { FitsNest nest.now network.now }
     requires table { table.now.of ≡ sources_of nest.now }
-    requires state { IsTagState (net_of network.now) state.now }
-    ensures enabled { OnTrue result
-        (enabled (net_of network.now) (state_of (net_of network.now) state.now) process ≡ true) }
-    ensures fine { OnTrue result
-        ((entry : ℕ) → entry_refusal nest.now (net_of network.now)
-        (positions (state_of (net_of network.now) state.now)) entry process ≡ None) }
+    requires state { IsTagState (net_of network.now) state.old }
+    ensures state { OnOk result (IsTagState (net_of network.now) state.new) }
+    ensures fine { IfOk result (λ fine. IsTrue fine
+        → LeadsTo nest.now (net_of network.now) (process ∷ []) state.old state.new) }
+    ensures unchanged { IfOk result (λ fine. IsFalse fine → state.new ≡ state.old) }
+    ensures refused { IfOk result (λ fine. IsFalse fine → (entry : ℕ)
+        → entry_refusal nest.now (net_of network.now) (cut_in state.old) entry process ≡ None → ⊥) }
 {
-    if !state.is_enabled(network, process) {
-        return false;
+    if process as usize >= network.processes.len() {
+        return Ok(false);
     }
-    match state.next(network, process) {
-        Event::Get { .. } | Event::Put { .. } => true,
-        Event::Fire { refs } => {
+    match state.next_event(network, process) {
+        Some(Event::Get { channel, slot }) => {
+            let (channel, slot) = (*channel, *slot);
+            if !state.can_get(network, process, channel, slot) {
+                return Ok(false);
+            }
+            state.step_get(network, process, channel, slot)?;
+            Ok(true)
+        }
+        Some(Event::Fire { refs }) => {
             let first_read = reads_before(nest, process as usize);
             let turn = state.turn(network, process) as usize;
-            names_are_wanted(table, first_read, turn, state.slots(network, process), refs)
+            let slots = state.slots(network, process);
+            if !names_are_wanted(table, first_read, turn, slots, refs) {
+                return Ok(false);
+            }
+            state.step_fire(network, process);
+            Ok(true)
         }
+        Some(Event::Put { channel }) => {
+            let channel = *channel;
+            if !state.can_put(network, process, channel) {
+                return Ok(false);
+            }
+            state.step_put(network, process, channel)?;
+            Ok(true)
+        }
+        None => Ok(false),
     }
 }
 
@@ -279,38 +300,12 @@ fn listed_refusal(
 {
     let mut state = TagState::new(alloc, network)?;
     for (entry, process) in schedule.iter().enumerate() {
-        if is_fine(nest, network, table, &state, *process) {
-            state.step(network, *process)?;
-            continue;
+        if !step_if_fine(nest, network, table, &mut state, *process)? {
+            let entry = entry as u32;
+            return Ok(judge(nest, points, network, table, &state, entry, *process));
         }
-        if let Some(refusal) = judge(nest, points, network, table, &state, entry as u32, *process) {
-            return Ok(Some(refusal));
-        }
-        state.step(network, *process)?;
     }
     Ok(unended(network, &state))
-}
-
-// Makes one entry of a schedule, if it is fine. It answers whether it is.
-fn step_if_fine(
-    nest: &Nest,
-    network: &Network,
-    table: &SourceTable,
-    state: &mut TagState,
-    process: u32,
-) -> Result<bool, AllocError>
-    requires fits { FitsNest nest.now network.now }
-    requires table { table.now.of ≡ sources_of nest.now }
-    requires state { IsTagState (net_of network.now) state.old }
-    ensures state { OnOk result (IsTagState (net_of network.now) state.new) }
-    ensures fine { IfOk result (λ fine. IsTrue fine
-        → LeadsTo nest.now (net_of network.now) (process ∷ []) state.old state.new) }
-{
-    if !is_fine(nest, network, table, state, process) {
-        return Ok(false);
-    }
-    state.step(network, process)?;
-    Ok(true)
 }
 
 // Makes the entries for which these parts stand, up to the first that isn't fine. It answers whether all are.
@@ -405,15 +400,9 @@ fn first_bad_entry(
     let mut state = TagState::new(alloc, network)?;
     let mut entry: u32 = 0;
     for process in schedule.iter() {
-        if is_fine(nest, network, table, &state, process) {
-            state.step(network, process)?;
-            entry += 1;
-            continue;
+        if !step_if_fine(nest, network, table, &mut state, process)? {
+            return Ok(judge(nest, points, network, table, &state, entry, process));
         }
-        if let Some(refusal) = judge(nest, points, network, table, &state, entry, process) {
-            return Ok(Some(refusal));
-        }
-        state.step(network, process)?;
         entry += 1;
     }
     Ok(unended(network, &state))

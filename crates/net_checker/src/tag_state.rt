@@ -1,6 +1,7 @@
 //! The machine over tags, of which nothing takes memory by its number alone.
-ghost use Rattle.std.specs.Prelude.{◌≡◌, ◌<◌, ◌+◌, ◌^◌, [], ◌∷◌, ◌++◌, None, Some, drop, length, map, pred, replicate, slice_index, slice_index_or, slice_set, true, IfOk, OnOk};
+ghost use Rattle.std.specs.Prelude.{◌≡◌, ◌<◌, ◌+◌, ◌^◌, List, [], ◌∷◌, ◌++◌, None, Some, drop, length, map, pred, replicate, slice_index, slice_index_or, slice_set, true, IfOk, OnOk};
 ghost use Rattle.std.specs.Option.{option_copied};
+ghost use Rattle.net_core.specs.declared.refs.Ref.{Ref};
 ghost use Rattle.net_core.specs.Machine.{enabled, net_of, next, start, step};
 ghost use Rattle.net_core.specs.Names.{tag};
 ghost use Rattle.net_core.specs.Rules.{tags};
@@ -240,28 +241,85 @@ impl TagState {
         Ok(())
     }
 
-    /// One event of an enabled process, or want of memory.
-    pub(crate) fn step(&mut self, network: &Network, process: u32) -> Result<(), AllocError>
+    /// Whether a process whose next event is this Get may go on. It takes no memory.
+    pub(crate) fn can_get(&self, network: &Network, process: u32, channel: u32, slot: u32) -> bool
+        requires state { IsTagState (net_of network.now) self.now }
+        requires next { next (net_of network.now) (state_of (net_of network.now) self.now) process
+            ≡ Some (Event.Get channel slot) }
+        ensures { result
+            ≡ enabled (net_of network.now) (state_of (net_of network.now) self.now) process }
+    {
+        let _ = (process, slot);
+        self.progress.has_token(network, channel)
+    }
+
+    /// Whether a process whose next event is this Put may go on. It takes no memory.
+    pub(crate) fn can_put(&self, network: &Network, process: u32, channel: u32) -> bool
+        requires state { IsTagState (net_of network.now) self.now }
+        requires next { next (net_of network.now) (state_of (net_of network.now) self.now) process
+            ≡ Some (Event.Put channel) }
+        ensures { result
+            ≡ enabled (net_of network.now) (state_of (net_of network.now) self.now) process }
+    {
+        let _ = process;
+        let capacity = capacity_of(network, channel);
+        self.progress.has_place(network, channel, capacity)
+    }
+
+    /// The next event of an enabled process, which is this Get, or want of memory.
+    pub(crate) fn step_get(
+        &mut self,
+        network: &Network,
+        process: u32,
+        channel: u32,
+        slot: u32,
+    ) -> Result<(), AllocError>
         requires state { IsTagState (net_of network.now) self.old }
         requires enabled { enabled (net_of network.now) (state_of (net_of network.now) self.old)
             process ≡ true }
+        requires next { next (net_of network.now) (state_of (net_of network.now) self.old) process
+            ≡ Some (Event.Get channel slot) }
         ensures run { OnOk result (state_of (net_of network.now) self.new
             ≡ step (net_of network.now) tags (state_of (net_of network.now) self.old) process) }
         ensures state { OnOk result (IsTagState (net_of network.now) self.new) }
     {
-        match self.progress.make_event(network, process) {
-            Event::Get { channel, slot } => {
-                self.get(network, process, channel, slot)?;
-                Ok(())
-            }
-            Event::Fire { .. } => {
-                self.fire(process as usize);
-                Ok(())
-            }
-            Event::Put { channel } => {
-                self.put(process, channel)?;
-                Ok(())
-            }
-        }
+        self.progress.make_event(network, process);
+        self.get(network, process, channel, slot)?;
+        Ok(())
+    }
+
+    /// The next event of a process, which is a Fire. It takes no memory.
+    pub(crate) fn step_fire(&mut self, network: &Network, process: u32)
+        requires state { IsTagState (net_of network.now) self.old }
+        requires next { (refs : List Ref)
+            × (next (net_of network.now) (state_of (net_of network.now) self.old) process
+            ≡ Some (Event.Fire refs)) }
+        ensures run { state_of (net_of network.now) self.new
+            ≡ step (net_of network.now) tags (state_of (net_of network.now) self.old) process }
+        ensures state { IsTagState (net_of network.now) self.new }
+    {
+        self.progress.make_event(network, process);
+        self.fire(process as usize);
+    }
+
+    /// The next event of an enabled process, which is this Put, or want of memory.
+    pub(crate) fn step_put(
+        &mut self,
+        network: &Network,
+        process: u32,
+        channel: u32,
+    ) -> Result<(), AllocError>
+        requires state { IsTagState (net_of network.now) self.old }
+        requires enabled { enabled (net_of network.now) (state_of (net_of network.now) self.old)
+            process ≡ true }
+        requires next { next (net_of network.now) (state_of (net_of network.now) self.old) process
+            ≡ Some (Event.Put channel) }
+        ensures run { OnOk result (state_of (net_of network.now) self.new
+            ≡ step (net_of network.now) tags (state_of (net_of network.now) self.old) process) }
+        ensures state { OnOk result (IsTagState (net_of network.now) self.new) }
+    {
+        self.progress.make_event(network, process);
+        self.put(process, channel)?;
+        Ok(())
     }
 }

@@ -1,8 +1,11 @@
-use Rattle.std.proofs.Common.{sym, ◌∙◌, arith, add-one}
-use Rattle.std.proofs.lemmas.Bool.{OnTrue_at}
+use Rattle.std.proofs.Common.{get_or, sym, ap, ◌∙◌, arith, add-one}
 use Rattle.std.proofs.lemmas.Option.{slice_get-get_or}
 use Rattle.net_core.specs.Machine.{net_of}
-use Rattle.net_checker.proofs.Walk.{walked_start, walked_more, entry_short, entry_found, at_end}
+use Rattle.net_checker.specs.declared.tag_state.TagState.{TagState}
+use Rattle.net_checker.specs.Entries.{entry_refusal}
+use Rattle.net_checker.specs.TagStates.{cut_in}
+use Rattle.net_checker.proofs.BlockSteps.{walked_by, walked_same}
+use Rattle.net_checker.proofs.Walk.{walked_start, entry_short, entry_wrong, at_end}
 use Rattle.net_checker.proofs.entries.listed_refusal.Goals as goal
 
 pub loop-entry-init : goal.loop-entry-init
@@ -18,30 +21,26 @@ overflow_cast-entry c =
           c.loop-entry.state c.loop-entry.entry c.loop-entry.invariant,
     )
 
-pub returns-in-Some : goal.returns-in-Some
-returns-in-Some c =
-    entry_found c.args.nest.now c.args.network.now c.args.schedule.now
-    c.loop-entry.state c.loop-entry.entry c.loop-entry.invariant _ c.in-Some.refusal
-    (slice_get-get_or c.args.schedule.now c.loop-entry.entry 0 (omega arith))
-    (sym c.judge.ensures ∙ c.in-Some.is)
+pub returns-then-not-branch : goal.returns-then-not-branch
+returns-then-not-branch c =
+    let net = net_of c.args.network.now in
+    let loop = c.loop-entry in
+    let process = get_or c.args.schedule.now c.loop-entry.entry 0 in
+    let same = c.in_ok-step_if_fine.ensures.unchanged c.if-not-branch.true in
+    entry_wrong c.args.nest.now c.args.network.now c.args.schedule.now c.step_if_fine.new.state loop.entry
+    (walked_same c.args.nest.now net c.args.schedule.now loop.state c.step_if_fine.new.state loop.entry loop.invariant
+    same) process c.judge.result
+    (slice_get-get_or c.args.schedule.now loop.entry 0 (omega arith)) c.judge.ensures
+    (λ fine. c.in_ok-step_if_fine.ensures.refused c.if-not-branch.true loop.entry
+    (ap (λ (s : TagState). entry_refusal c.args.nest.now net (cut_in s) loop.entry process) (sym same) ∙ fine))
 
 pub loop-entry-preserved : goal.loop-entry-preserved
 loop-entry-preserved c =
     rw (add-one)
-    (walked_more c.args.nest.now (net_of c.args.network.now) c.args.schedule.now c.loop-entry.state
-    c.step-in-loop-entry.new.self c.loop-entry.entry _ c.loop-entry.invariant
+    (walked_by c.args.nest.now (net_of c.args.network.now) c.args.schedule.now c.loop-entry.state
+    c.step_if_fine.new.state c.loop-entry.entry c.loop-entry.invariant _
     (slice_get-get_or c.args.schedule.now c.loop-entry.entry 0 (omega arith))
-    (sym c.judge.ensures ∙ c.in_default.is) c.in_ok-step-2.ensures.run
-    c.in_ok-step-2.ensures.state)
-
-pub loop-entry-preserved-then-is_fine : goal.loop-entry-preserved-then-is_fine
-loop-entry-preserved-then-is_fine c =
-    rw (add-one)
-    (walked_more c.args.nest.now (net_of c.args.network.now) c.args.schedule.now c.loop-entry.state
-    c.step.new.self c.loop-entry.entry _ c.loop-entry.invariant
-    (slice_get-get_or c.args.schedule.now c.loop-entry.entry 0 (omega arith))
-    (OnTrue_at c.if-is_fine.true c.is_fine.ensures.fine c.loop-entry.entry) c.in_ok-step.ensures.run
-    c.in_ok-step.ensures.state)
+    (c.in_ok-step_if_fine.ensures.fine c.if-not-branch.false) c.in_ok-step_if_fine.ensures.state)
 
 pub returns : goal.returns
 returns c =

@@ -25,6 +25,7 @@ use Rattle.net_core.specs.Shape.{is_get, FitsNumbers, IsWired}
 use Rattle.net_core.specs.Uses.{use_in, use_of, uses_of, uses_before, uses}
 use Rattle.net_core.proofs.EventCounts.{count_next}
 use Rattle.net_core.proofs.PutCounts.{count_by-none}
+use Rattle.net_checker.specs.Collected.{IsCollected}
 use Rattle.net_checker.proofs.FirstFault.{script_short}
 
 -- Lists
@@ -112,16 +113,6 @@ module _ (net : Net) (wired : IsWired net) (p : ℕ) where
   no_gets c other = count_by-none (is_get c) (net.script p) (λ k e is. is_other_get c k e other is)
 
 -- One script
-
--- what the walk has collected before place k of p's script
-pub record IsCollected (net : Net) (p : ℕ) (first_gets : List ℕ) (first_uses : List (List ℕ)) (gets : List ℕ)
-    (lists : List (List ℕ)) (slots : List (Option (ℕ × ℕ))) (k : ℕ) : Type 0 where
-  pub gets_length : length gets ≡ net.channels
-  pub uses_length : length lists ≡ net.channels
-  pub slots_are : slots ≡ latest_gets net p k
-  pub gets_are : (c : ℕ) → c < net.channels
-      → get_or gets c 0 ≡ get_or first_gets c 0 + count_by (is_get c) (take k (net.script p))
-  pub uses_are : (c : ℕ) → c < net.channels → get_or lists c [] ≡ get_or first_uses c [] ++ uses_before net c p k
 
 pub collected_none : (net : Net) (p : ℕ) (gets : List ℕ) (lists : List (List ℕ)) (slots : List (Option (ℕ × ℕ)))
     → length gets ≡ net.channels → length lists ≡ net.channels → slots ≡ replicate (net.slots p) None

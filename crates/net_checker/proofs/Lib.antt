@@ -15,6 +15,7 @@ pub mod FitsFires
 pub mod Walk
 pub mod FireVerdicts
 pub mod ChannelUses
+pub mod BlockUses
 pub mod Verdicts
 pub mod CertParts
 pub mod SlotLemmas

@@ -5,6 +5,7 @@ pub mod FittingFires
 pub mod Entries
 pub mod Lookups
 pub mod Classes
+pub mod Collected
 pub mod Sources
 pub mod Tables
 pub mod SlotRows

@@ -1,10 +1,12 @@
-ghost use Rattle.std.specs.Prelude.{◌≡◌, ◌<◌, ◌+◌, ◌^◌, ℕ, [], ◌++◌, length, replicate, count_by, slice_get, slice_index, slice_index_or, Some, None, IfOk, OnOk};
+ghost use Rattle.std.specs.Prelude.{◌≡◌, ◌<◌, ◌+◌, ◌^◌, ℕ, [], ◌∷◌, ◌++◌, length, replicate, count_by, slice_get, slice_index, slice_index_or, Some, None, IfOk, OnOk};
 ghost use Rattle.std.specs.List.{flat_map};
 ghost use Rattle.net_core.specs.Machine.{net_of};
 ghost use Rattle.net_core.specs.Shape.{is_get, FitsNumbers, IsWired};
 ghost use Rattle.net_core.specs.Uses.{use_of, uses, uses_before};
 ghost use Rattle.net_checker.specs.Classes.{class_refusal, same_class};
+ghost use Rattle.net_checker.specs.Collected.{IsCollected, IsCollectedBefore};
 ghost use Rattle.net_checker.specs.SlotRows.{slots_in};
+ghost use Rattle.script_blocks.specs.Expansion.{part_expansion, parts_expansion, repeated};
 
 use crate::parts::{process_of, script_of};
 use crate::slots::Slots;
@@ -13,6 +15,7 @@ use crate::verdict::Refusal;
 use channel_class::{ChannelClass, class_of};
 use net_core::{Event, Network, Ref, Refs};
 use plain_data::Items;
+use script_blocks::BlockPart;
 use std::alloc::{AllocError, Global};
 
 // Adds what a reference uses: the Get whose token it names, to the list of that Get's channel.
@@ -54,6 +57,124 @@ fn add_fire(
     Ok(())
 }
 
+// Goes past an event of a process's script: a Get is counted and fills its slot, and a Fire adds what it uses.
+fn add_event(
+    network: &Network,
+    process: u32,
+    event: &Event,
+    slots: &mut Slots<(u32, u32)>,
+    gets: &mut [u32],
+    uses: &mut [Items<u32>],
+) -> Result<(), AllocError>
+    requires wired { IsWired (net_of network.now) }
+    requires numbers { FitsNumbers (net_of network.now) }
+    requires place { IsCollectedBefore (net_of network.now) process (event.now ∷ [])
+        gets.old uses.old (slots_in slots.old) }
+    ensures { OnOk result
+        ((place : IsCollectedBefore (net_of network.now) process (event.now ∷ [])
+        gets.old uses.old (slots_in slots.old))
+        → IsCollected (net_of network.now) process place.first_gets place.first_uses
+        gets.new uses.new (slots_in slots.new) (length (place.before ++ event.now ∷ []))) }
+{
+    let _ = network;
+    let _ = process;
+    match event {
+        Event::Get { channel, slot } => {
+            let (channel, slot) = (*channel, *slot);
+            let get = gets[channel as usize];
+            slots.fill(slot, (channel, get))?;
+            gets[channel as usize] = get + 1;
+            Ok(())
+        }
+        Event::Fire { refs } => add_fire(refs, slots, uses),
+        Event::Put { .. } => Ok(()),
+    }
+}
+
+// The same of all events for which these parts stand.
+#[cycle(adding)]
+fn add_parts(
+    network: &Network,
+    process: u32,
+    parts: &[BlockPart<Event>],
+    slots: &mut Slots<(u32, u32)>,
+    gets: &mut [u32],
+    uses: &mut [Items<u32>],
+) -> Result<(), AllocError>
+    requires wired { IsWired (net_of network.now) }
+    requires numbers { FitsNumbers (net_of network.now) }
+    requires place { IsCollectedBefore (net_of network.now) process (parts_expansion parts.now)
+        gets.old uses.old (slots_in slots.old) }
+    ensures { OnOk result
+        ((place : IsCollectedBefore (net_of network.now) process (parts_expansion parts.now)
+        gets.old uses.old (slots_in slots.old))
+        → IsCollected (net_of network.now) process place.first_gets place.first_uses
+        gets.new uses.new (slots_in slots.new)
+        (length (place.before ++ parts_expansion parts.now))) }
+{
+    for part in parts {
+        add_part(network, process, part, slots, gets, uses)?;
+    }
+    Ok(())
+}
+
+#[cycle(adding)]
+fn add_part(
+    network: &Network,
+    process: u32,
+    part: &BlockPart<Event>,
+    slots: &mut Slots<(u32, u32)>,
+    gets: &mut [u32],
+    uses: &mut [Items<u32>],
+) -> Result<(), AllocError>
+    requires wired { IsWired (net_of network.now) }
+    requires numbers { FitsNumbers (net_of network.now) }
+    requires place { IsCollectedBefore (net_of network.now) process (part_expansion part.now)
+        gets.old uses.old (slots_in slots.old) }
+    ensures { OnOk result
+        ((place : IsCollectedBefore (net_of network.now) process (part_expansion part.now)
+        gets.old uses.old (slots_in slots.old))
+        → IsCollected (net_of network.now) process place.first_gets place.first_uses
+        gets.new uses.new (slots_in slots.new)
+        (length (place.before ++ part_expansion part.now))) }
+{
+    match part {
+        BlockPart::Item(event) => add_event(network, process, event, slots, gets, uses),
+        BlockPart::Repeat(count, body) => {
+            let parts = body.parts.as_slice();
+            add_copies(network, process, *count, parts, slots, gets, uses)
+        }
+    }
+}
+
+// The same of so many copies of these parts.
+#[cycle(adding)]
+fn add_copies(
+    network: &Network,
+    process: u32,
+    count: u32,
+    parts: &[BlockPart<Event>],
+    slots: &mut Slots<(u32, u32)>,
+    gets: &mut [u32],
+    uses: &mut [Items<u32>],
+) -> Result<(), AllocError>
+    requires wired { IsWired (net_of network.now) }
+    requires numbers { FitsNumbers (net_of network.now) }
+    requires place { IsCollectedBefore (net_of network.now) process
+        (repeated count (parts_expansion parts.now)) gets.old uses.old (slots_in slots.old) }
+    ensures { OnOk result
+        ((place : IsCollectedBefore (net_of network.now) process
+        (repeated count (parts_expansion parts.now)) gets.old uses.old (slots_in slots.old))
+        → IsCollected (net_of network.now) process place.first_gets place.first_uses
+        gets.new uses.new (slots_in slots.new)
+        (length (place.before ++ repeated count (parts_expansion parts.now)))) }
+{
+    for _ in 0..count {
+        add_parts(network, process, parts, slots, gets, uses)?;
+    }
+    Ok(())
+}
+
 // Counts the Gets of a process's script, and adds its uses. No slot was filled, and none of its channels got from before.
 fn add_events(
     network: &Network,
@@ -79,18 +200,8 @@ fn add_events(
         ++ uses_before (net_of network.now) c process
         (length ((net_of network.now).script process))) }
 {
-    for event in script_of(network, process).iter() {
-        match event {
-            Event::Get { channel, slot } => {
-                let get = gets[channel as usize];
-                slots.fill(slot, (channel, get))?;
-                gets[channel as usize] = get + 1;
-            }
-            Event::Fire { refs } => add_fire(&refs, slots, uses)?,
-            Event::Put { .. } => {}
-        }
-    }
-    Ok(())
+    let parts = script_of(network, process).blocks().parts.as_slice();
+    add_parts(network, process, parts, slots, gets, uses)
 }
 
 // The same, with slots of its own.

@@ -25,13 +25,15 @@ step_limit = 1073741824
 abbrev pub start_limit : ℕ
 start_limit = 2305843009213693952
 
--- this is the number, and it is small
-abbrev pub IsSmallStep : ℤ → ℤ → Type 0
-IsSmallStep number step = (step ≡ number) × (unsigned_abs step ≤ step_limit)
-
 -- the value of a line at a turn
 abbrev pub line_at : Line → ℤ → ℤ
 line_at line turn = line.value +ℤ (turn *ℤ line.step)
+
+-- these are the first two values of the line, whose step is small
+pub record IsThrough (value next : ℤ) (line : Line) : Type 0 where
+  pub first : line.value ≡ value
+  pub step : line.step ≡ next -ℤ value
+  pub small : unsigned_abs line.step ≤ step_limit
 
 -- what is there at each turn is the value of the line, whose step is small
 pub record IsLine (there : ℤ → Option ℤ) (line : Line) : Type 0 where

@@ -1,4 +1,4 @@
-ghost use Rattle.std.specs.Prelude.{◌≡◌, ◌≤◌, ◌≤ℤ◌, ◌+◌, ◌+ℤ◌, ◌++◌, ◌↔◌, pos, None, Some, [], ◌∷◌, length, IfOk, IfSome, IsTrue, IsFalse};
+ghost use Rattle.std.specs.Prelude.{◌≡◌, ◌<◌, ◌≤ℤ◌, ◌+◌, ◌+ℤ◌, ◌++◌, ◌↔◌, pos, None, Some, [], ◌∷◌, length, IfOk, IfSome, IsTrue, IsFalse};
 ghost use Rattle.std.specs.Result.{result_ok};
 ghost use Rattle.source_tree.specs.declared.tree.Found.{Found};
 ghost use Rattle.source_tree.specs.declared.tree.Found.TheVariants as found;
@@ -57,7 +57,7 @@ impl Stretch {
     // The stretch that begins at this value.
     fn beginning(alloc: Global, tree: &Tree, outer: &[i64], first: i64) -> Option<Stretch>
         requires ready { IsTrue (is_ready (length outer.now + 1) tree.now (length outer.now + 1)) }
-        requires short { length outer.now ≤ 6 }
+        requires short { length outer.now < 6 }
         ensures { IfSome result (IsStretch tree.now) }
     {
         let row = follow_row(alloc, tree, outer, first, turns_from(first))?;
@@ -160,7 +160,7 @@ impl Follower {
     // Begins a stretch at this value, if there is one.
     fn begin(&mut self, alloc: Global, tree: &Tree, outer: &[i64], value: i64)
         requires ready { IsTrue (is_ready (length outer.now + 1) tree.now (length outer.now + 1)) }
-        requires short { length outer.now ≤ 6 }
+        requires short { length outer.now < 6 }
         requires known { IsStretchOf tree.now self.old }
         ensures { IsStretchOf tree.now self.new }
     {

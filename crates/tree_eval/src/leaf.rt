@@ -1,6 +1,6 @@
 ghost use Rattle.std.specs.Bool.{OnTrue};
 ghost use Rattle.std.specs.Option.{option_map};
-ghost use Rattle.std.specs.Prelude.{◌≡◌, ◌≤◌, ◌≤ℤ◌, ◌+◌, ◌+ℤ◌, ◌++◌, ◌↔◌, ℤ, pos, Some, [], ◌∷◌, ◌*ℤ◌, length, unsigned_abs, IsTrue};
+ghost use Rattle.std.specs.Prelude.{◌≡◌, ◌<◌, ◌≤◌, ◌≤ℤ◌, ◌+◌, ◌+ℤ◌, ◌++◌, ◌↔◌, ℤ, pos, Some, [], ◌∷◌, ◌*ℤ◌, length, unsigned_abs, IsTrue};
 ghost use Rattle.source_tree.specs.declared.tree.Found.TheVariants as found;
 ghost use Rattle.source_tree.specs.Walk.{map_values};
 ghost use Rattle.tree_eval.specs.Stretches.{AddsLines, AreSmall, IsSmall, found_at, values_at, start_limit, step_limit, turn_limit};
@@ -127,6 +127,7 @@ pub(crate) fn append_lines(
 ) -> bool
     requires room { length starts.old + length forms.now ≤ 6 }
     requires small { AreSmall starts.old steps.old }
+    requires short { length outer.now < 6 }
     ensures { OnTrue result
         (AddsLines (λ turn. map_values forms.now (outer.now ++ (first +ℤ turn) ∷ []))
         starts.old steps.old starts.new steps.new) }

@@ -5,7 +5,6 @@
 #![tactic(auto)]
 
 mod follower;
-mod forms;
 mod leaf;
 mod line;
 mod row;

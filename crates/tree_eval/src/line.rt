@@ -1,9 +1,8 @@
-ghost use Rattle.std.specs.Prelude.{◌≡◌, ◌≤◌, ◌≤ℤ◌, ◌+ℤ◌, ◌-ℤ◌, ◌*ℤ◌, ◌++◌, ℤ, pos, negsuc, [], ◌∷◌, int_le, unsigned_abs, IfSome};
-ghost use Rattle.affine_core.specs.Within.{combined_in_128_bits, sum_in_128_bits, value_in_128_bits};
-ghost use Rattle.tree_eval.specs.Stretches.{IsLine, IsSmallStep, line_at, step_limit};
+ghost use Rattle.std.specs.Prelude.{◌≡◌, ◌<◌, ◌≤◌, ◌≤ℤ◌, ◌+ℤ◌, ◌-ℤ◌, ◌*ℤ◌, ◌++◌, ℤ, pos, negsuc, [], ◌∷◌, int_le, length, unsigned_abs, IfSome};
+ghost use Rattle.affine_core.specs.Within.{value_in_128_bits};
+ghost use Rattle.tree_eval.specs.Stretches.{IsLine, IsThrough, line_at, step_limit};
 
-use crate::forms::add_product;
-use affine_core::KeptForm;
+use affine_core::{KeptForm, KeptValues};
 
 /// How a form's value changes along the innermost loop: its value at the first turn, and the step to the next.
 #[derive(Clone, Copy)]
@@ -15,57 +14,31 @@ pub(crate) struct Line {
 /// How large a step is at most.
 const STEP_LIMIT: u64 = 1_073_741_824;
 
-// A coefficient as the step of a line, if it is small.
-fn small_step(coef: i128) -> Option<i64>
-    ensures { IfSome result (IsSmallStep coef) }
+// The line with these first two values, if its step is small.
+fn line_through(value: i64, next: i64) -> Option<Line>
+    ensures { IfSome result (IsThrough value next) }
 {
-    let step = i64::try_from(coef).ok()?;
+    let step = next.checked_sub(value)?;
     if step.unsigned_abs() <= STEP_LIMIT {
-        Some(step)
+        Some(Line { value, step })
     } else {
         None
     }
 }
 
-// The line of a sum to which the innermost loop's value is added so many times.
-fn last_line(total: i64, coef: i128, first: i64) -> Option<Line>
-    ensures { IfSome result (IsLine (λ turn. sum_in_128_bits total coef (first +ℤ turn))) }
-{
-    let step = small_step(coef)?;
-    let value = add_product(total, coef, first)?;
-    Some(Line { value, step })
-}
-
-// The line of a sum to which products with the values of the loops are added, outermost first.
-fn line_from(total: i64, coefs: &[i128], outer: &[i64], first: i64) -> Option<Line>
-    ensures { IfSome result
-        (IsLine
-        (λ turn. combined_in_128_bits total coefs.now (outer.now ++ (first +ℤ turn) ∷ []))) }
-{
-    let Some((coef, coefs)) = coefs.split_first() else {
-        return Some(Line {
-            value: total,
-            step: 0,
-        });
-    };
-    match outer.split_first() {
-        Some((value, outer)) => {
-            let next = add_product(total, *coef, *value)?;
-            line_from(next, coefs, outer, first)
-        }
-        None => last_line(total, *coef, first),
-    }
-}
-
-/// The form's values along the innermost loop from its first turn on, if its step is small and the value there needs no
-/// number of more than 64 bits. These are the values of the loops round it.
+/// The form's values along the innermost loop from its first turn on, if its step is small and the first two need no number of more
+/// than 64 bits. These are the values of the loops round it.
 pub(crate) fn line_of(form: &KeptForm, outer: &[i64], first: i64) -> Option<Line>
+    requires { length outer.now < 6 }
     ensures { IfSome result
         (IsLine (λ turn. value_in_128_bits form.now (outer.now ++ (first +ℤ turn) ∷ []))) }
 {
-    let form = form.get();
-    let constant = i64::try_from(form.constant).ok()?;
-    line_from(constant, form.coefs.as_slice(), outer, first)
+    let second = first.checked_add(1)?;
+    let here = KeptValues::extended(outer, first);
+    let value = form.eval_in_64_bits(here.as_slice())?;
+    let there = KeptValues::extended(outer, second);
+    let next = form.eval_in_64_bits(there.as_slice())?;
+    line_through(value, next)
 }
 
 // For how many turns a number that isn't negative stays so: at most so many.

@@ -1,4 +1,4 @@
-ghost use Rattle.std.specs.Prelude.{◌≤ℤ◌, ◌+ℤ◌, ℕ, pos, IfSome, IsTrue};
+ghost use Rattle.std.specs.Prelude.{◌<◌, ◌≤ℤ◌, ◌+ℤ◌, ℕ, length, pos, IfSome, IsTrue};
 ghost use Rattle.source_tree.specs.Walk.{is_ready};
 ghost use Rattle.tree_eval.specs.Stretches.{IsRow, turn_limit};
 
@@ -27,6 +27,7 @@ pub(crate) fn follow_row(
     requires ready { (depth variables : ℕ) × IsTrue (is_ready depth tree.now variables) }
     requires not_negative { pos 0 ≤ℤ turns }
     requires few { turns ≤ℤ pos turn_limit }
+    requires short { length outer.now < 6 }
     ensures { IfSome result (IsRow tree.now outer.now first turns) }
 {
     match tree {

@@ -30,9 +30,12 @@ append_lines-requires t c =
           ap length c.in-Some.ensures.cases.0,
           simp length-append at (ap length c.append_line.ensures.starts),
         ),
-        small_lines c.args.starts.now c.args.steps.now c.append_line.new.starts c.append_line.new.steps
-            c.in-Some-line_of.line.value c.in-Some-line_of.line.step c.requires.small start is.small
-            c.append_line.ensures.starts c.append_line.ensures.steps,
+        (
+          small_lines c.args.starts.now c.args.steps.now c.append_line.new.starts c.append_line.new.steps
+              c.in-Some-line_of.line.value c.in-Some-line_of.line.step c.requires.small start is.small
+              c.append_line.ensures.starts c.append_line.ensures.steps,
+          c.requires.short,
+        ),
       ),
     )
 

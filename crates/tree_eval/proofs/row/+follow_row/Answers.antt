@@ -20,7 +20,7 @@ follow_row-requires t c = (
           c.in-Test.no
           c.in-Test.is c.requires.ready.2).1,
     ),
-    (omega (arith, ints), omega (arith, ints)),
+    (omega (arith, ints), (omega (arith, ints), c.requires.short)),
   ),
 )
 
@@ -36,7 +36,7 @@ follow_row-requires-else-line-ge0 t c = (
           c.in-Test.no
           c.in-Test.is c.requires.ready.2).2,
     ),
-    (omega (arith, ints), omega (arith, ints)),
+    (omega (arith, ints), (omega (arith, ints), c.requires.short)),
   ),
 )
 

@@ -10,8 +10,8 @@ ghost use Rattle.witness_plan.specs.Sequential.{capacities, channels_with, seque
 
 use crate::laws::schedule_runs;
 use crate::recorder::{Recorder, bound_after};
-use crate::steps::make_point;
-use loop_walk::Walk;
+use crate::steps::make_points;
+use fire_runs::trace_runs;
 use net_core::{Channel, Network};
 use plain_data::Items;
 use process_derive::numbers_fit;
@@ -47,9 +47,9 @@ fn sequential(alloc: Global, nest: &Nest, network: &Network) -> Result<Witness, 
         (λ witness. witness.capacities ≡ capacities network.now (sequential_schedule nest.now)) }
 {
     let mut recorder = Recorder::new(alloc, network)?;
-    let mut walk = Walk::new(alloc, nest)?;
-    while let Some(point) = walk.next(nest) {
-        make_point(&mut recorder, network, point.statement)?;
+    let runs = trace_runs(alloc, nest)?;
+    for run in runs.as_slice() {
+        make_points(&mut recorder, network, run.process, run.count)?;
     }
     Ok(recorder.into_witness())
 }

@@ -4,7 +4,7 @@ ghost use Rattle.net_core.specs.declared.network.Event.TheVariants.{Fire, Put};
 ghost use Rattle.net_core.specs.declared.refs.Ref.{Ref};
 ghost use Rattle.net_core.specs.Machine.{net_of};
 ghost use Rattle.witness_plan.specs.Records.{IsRecord, left_after};
-ghost use Rattle.witness_plan.specs.Steps.{point_length, put_length};
+ghost use Rattle.witness_plan.specs.Steps.{point_length, put_length, with_points};
 
 use crate::recorder::Recorder;
 use net_core::{Event, Network};
@@ -67,12 +67,8 @@ fn make_puts(recorder: &mut Recorder, network: &Network, process: u32) -> Result
     Ok(())
 }
 
-/// Lets a process make the events of its next point, and counts them: all up to its Fire, and the Puts behind it.
-pub(crate) fn make_point(
-    recorder: &mut Recorder,
-    network: &Network,
-    process: u32,
-) -> Result<(), AllocError>
+// Lets a process make the events of its next point: all up to its Fire, and the Puts behind it.
+fn make_point(recorder: &mut Recorder, network: &Network, process: u32) -> Result<(), AllocError>
     requires recorder { IsRecord (net_of network.now) recorder.old }
     requires process { process < length network.now.processes }
     ensures schedule { OnOk result
@@ -84,5 +80,25 @@ pub(crate) fn make_point(
 {
     make_fire(recorder, network, process)?;
     make_puts(recorder, network, process)?;
+    Ok(())
+}
+
+/// Lets a process make the events of so many points.
+pub(crate) fn make_points(
+    recorder: &mut Recorder,
+    network: &Network,
+    process: u32,
+    count: usize,
+) -> Result<(), AllocError>
+    requires recorder { IsRecord (net_of network.now) recorder.old }
+    requires process { 0 < count → process < length network.now.processes }
+    ensures schedule { OnOk result
+        (recorder.new.schedule
+        ≡ with_points (net_of network.now) recorder.old.schedule process count) }
+    ensures recorder { OnOk result (IsRecord (net_of network.now) recorder.new) }
+{
+    for _ in 0..count {
+        make_point(recorder, network, process)?;
+    }
     Ok(())
 }

@@ -5,7 +5,7 @@ pub mod PassedQueues
 pub mod EventTotals
 pub mod EventsOfNet
 pub mod TextNumbers
-pub mod TraceRuns
+pub mod RunTurns
 pub mod RunPassed
 pub mod WholeTrace
 pub mod RunQueues

@@ -30,7 +30,8 @@ use Rattle.network_numbers.proofs.EntryLengths.{greatest_entry}
 use Rattle.network_numbers.proofs.PlannedGets.{few_needed, gets_are, grown, tokens_are, turns_made}
 use Rattle.network_numbers.proofs.QueueCounts.{ends, queue_counted}
 use Rattle.network_numbers.proofs.TextNumbers.{numbered_range}
-use Rattle.network_numbers.proofs.TraceRuns.{HasRun, turns_other, turns_own}
+use Rattle.fire_runs.proofs.TraceRuns.{HasRun}
+use Rattle.network_numbers.proofs.RunTurns.{turns_other, turns_own}
 use Rattle.network_numbers.proofs.WantedTurns.{behind, folded, greatest_next}
 use Rattle.plain_data.proofs.Lists.{slice_get-some}
 use Rattle.plan_numbers.specs.Numbers.{numbers_of}

@@ -37,7 +37,8 @@ use Rattle.net_core.proofs.CountedLists.{set_at}
 use Rattle.witness_plan.proofs.InTraceOrder.{turns_before}
 use Rattle.witness_plan.proofs.SequentialRun.{few_turns}
 use Rattle.witness_plan.proofs.TraceSteps.{sequenced, sequenced_all}
-use Rattle.network_numbers.proofs.TraceRuns.{HasRun, turns_other, turns_own}
+use Rattle.fire_runs.proofs.TraceRuns.{HasRun}
+use Rattle.network_numbers.proofs.RunTurns.{turns_other, turns_own}
 use Rattle.network_numbers.proofs.RunPassed.{none_passed, queue_at, queue_with, queues_at, run_passed}
 
 -- Channels of processes

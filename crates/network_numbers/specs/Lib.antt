@@ -1,5 +1,4 @@
 pub mod Entries
 pub mod Links
-pub mod Runs
 pub mod Queues
 pub mod PlanNumbers

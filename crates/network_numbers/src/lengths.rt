@@ -9,7 +9,7 @@ ghost use Rattle.witness_plan.specs.Sequential.{capacities, sequential_schedule}
 use crate::entry::pass_run;
 use crate::links::{channels_of_processes, read_lists};
 use crate::queues::{QueueCounts, greatest_lengths};
-use crate::runs::trace_runs;
+use fire_runs::trace_runs;
 use plan_numbers::PlanNumbers;
 use sanlp::Nest;
 use source_tree::SourceTable;

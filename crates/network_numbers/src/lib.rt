@@ -10,7 +10,6 @@ mod lengths;
 mod links;
 mod numbers;
 mod queues;
-mod runs;
 mod totals;
 
 pub use numbers::sequential_numbers;

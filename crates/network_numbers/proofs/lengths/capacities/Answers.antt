@@ -14,9 +14,9 @@ use Rattle.std.proofs.lemmas.List.FromFn.{length-map-range_with_len}
 use Rattle.channel_plan.specs.Plans.{plans_of}
 use Rattle.network_numbers.specs.Links.{channels_at}
 use Rattle.network_numbers.specs.Queues.{empty_queue}
-use Rattle.network_numbers.specs.Runs.{processes_in}
+use Rattle.fire_runs.specs.Runs.{processes_in}
 use Rattle.network_numbers.proofs.RunPassed.{queue_at, queues_at}
-use Rattle.network_numbers.proofs.TraceRuns.{before_more, fires_before, run_at, run_here, run_is, whole_trace}
+use Rattle.fire_runs.proofs.TraceRuns.{before_more, fires_before, run_at, run_here, run_is, whole_trace}
 use Rattle.network_numbers.proofs.WholeTrace.{capacities_are, linked_at, no_queues, no_turns}
 use Rattle.network_numbers.proofs.WholeTrace.{process_exists, queues_later, turn_is, turns_later, turns_small}
 use Rattle.network_numbers.proofs.lengths.capacities.Goals as goal

@@ -2,7 +2,7 @@ use Rattle.std.proofs.Common.{◌≡◌, length, map}
 use Rattle.std.specs.List.{range_with_len}
 use Rattle.sanlp.specs.Trace.{trace}
 use Rattle.network_numbers.proofs.RunPassed.{queues_at}
-use Rattle.network_numbers.proofs.TraceRuns.{fires_before}
+use Rattle.fire_runs.proofs.TraceRuns.{fires_before}
 use Rattle.network_numbers.proofs.lengths.capacities.Given as goal
 use Rattle.witness_plan.proofs.InTraceOrder.{turns_before}
 

@@ -1,10 +1,11 @@
 -- What follows a choice among a variable's first forms, with one form more.
-use Rattle.std.specs.Prelude.{◌≡◌, ◌^◌, ◌+◌, ℕ, List, Option, Some, length, slice_get, ◌++◌, [], ◌∷◌}
+use Rattle.std.specs.Prelude.{◌≡◌, ◌^◌, ◌+◌, ℕ, List, Option, Some, length, map, slice_get, ◌++◌, [], ◌∷◌}
 use Rattle.affine_core.specs.declared.form.Form.{Form}
 use Rattle.int_polyhedra.specs.declared.system.System.{System}
 use Rattle.int_polyhedra.specs.Steps.{negation_of}
 use Rattle.lex_max.specs.Choices.{IsChoosing, IsNextChoice}
 use Rattle.difference_graphs.specs.declared.closure.Bounds.{Bounds}
+use Rattle.difference_graphs.specs.declared.cycles.Cycle.{Cycle}
 use Rattle.lex_max.specs.declared.decide.Choice.{Choice}
 use Rattle.lex_max.specs.declared.decide.ChoiceStep.{ChoiceStep}
 use Rattle.lex_max.specs.declared.decide.ChoiceStep.TheVariants.{Known, Either}
@@ -20,6 +21,11 @@ pub record IsSmallForm (vars : ℕ) (form : Form) : Type 0 where
 abbrev pub AreSmallForms : ℕ → List (Option Form) → Type 0
 AreSmallForms vars forms =
     (k : ℕ) (form : Form) → slice_get forms k ≡ Some (Some form) → IsSmallForm vars form
+
+-- the context where the forms of these cycles are at least 0
+abbrev pub with_cycles : System → List Cycle → System
+with_cycles context cycles =
+    record context { rows = context.rows ++ map (λ (c : Cycle). c.form) cycles }
 
 -- choices of the context with a form behind, and of the one with the form's opposite behind
 pub record AreEither (context : System) (form : Option Form) (choice : Choice) (above : Form)

@@ -10,7 +10,7 @@ ghost use Rattle.difference_graphs.specs.Cycles.{IsCycle};
 ghost use Rattle.difference_graphs.specs.Asked.{depth_of_write, IsAsked};
 ghost use Rattle.affine_core.specs.declared.form.Form.{Form as FormOf};
 ghost use Rattle.int_polyhedra.specs.Steps.{negation_of};
-ghost use Rattle.lex_max.specs.ChoiceSteps.{AreSmallForms, IsChoiceStep, IsFollowed, IsSmallForm};
+ghost use Rattle.lex_max.specs.ChoiceSteps.{with_cycles, AreSmallForms, IsChoiceStep, IsFollowed, IsSmallForm};
 ghost use Rattle.lex_max.specs.Choices.{chosen_place, choices_left, upper_of, uppers_from, uppers_of, with_terms, AllNone, AreCertsSoFar, AreChosen, AreReady, IsChoosing, IsNextChoice};
 ghost use Rattle.difference_graphs.specs.Edges.{edge_parts, IsEdge};
 ghost use Rattle.lex_max.specs.EdgeStates.{IsEdgeState};
@@ -791,6 +791,8 @@ fn is_told(w: &Writes, context: &System, cycles: &[Cycle], form: &Form) -> Resul
     requires context { IsContextOf w.now (length cycles.now) context.now }
     requires cycles { (edges : List EdgeOf) × All (IsCycle w.now.vars edges) cycles.now }
     requires over { length form.now.coefs ≡ w.now.vars }
+    ensures { IfOk result (λ told. OnTrue told ((terms : List TermOf)
+        × IsFact (with_cycles context.now cycles.now) 65536 (form_parts form.now) terms)) }
 {
     let Some((cycle, cycles)) = cycles.split_first() else {
         return is_known(context, form);

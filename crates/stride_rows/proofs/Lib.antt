@@ -11,3 +11,4 @@ pub mod RowSources
 pub mod Subscripts
 pub mod QuotientRows
 pub mod ReadClass
+pub mod Behind

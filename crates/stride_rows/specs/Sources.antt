@@ -84,14 +84,18 @@ subscript_sources (write ∷ writes) number root places =
 abbrev pub own_sources : ℕ → ℕ → List Source
 own_sources first count = map Own (range_with_len first count)
 
--- Of a system of a write before the read: so many rows of the context, the writer's domain rows and subscripts, and
--- so many order rows.
+-- Of a system of a write before the read, behind so many rows of the context: the writer's domain rows and subscripts,
+-- and so many order rows.
+abbrev pub sources_behind : List Form → List Form → ℕ → List ℕ → ℕ → ℕ → List Source
+sources_behind rows writes root places here more =
+    domain_sources rows here
+    ++ (subscript_sources writes (here + length rows) root places
+    ++ own_sources (here + length rows + 2 * length writes) more)
+
+-- of the whole system
 abbrev pub write_sources : List Form → List Form → ℕ → List ℕ → ℕ → ℕ → List Source
 write_sources rows writes root places here more =
-    own_sources 0 here
-    ++ (domain_sources rows here
-    ++ (subscript_sources writes (here + length rows) root places
-    ++ own_sources (here + length rows + 2 * length writes) more))
+    own_sources 0 here ++ sources_behind rows writes root places here more
 
 -- a Sum as a proof of a system whose last row comes from a source, behind so many rows of a context
 abbrev pub last_converted : Source → ℕ → List Term → Proof

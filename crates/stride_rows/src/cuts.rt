@@ -1,5 +1,7 @@
 ghost use Rattle.std.specs.Prelude.{◌≡◌, ◌<◌, ◌+◌, ◌^◌, ◌++◌, length, slice_index_or, IfOk, OnOk};
+ghost use Rattle.std.specs.List.{range_with_len};
 ghost use Rattle.stride_rows.specs.Cuts.{after_cuts, converted_sum, cuts_of, numbers_from, renumbered};
+ghost use Rattle.stride_rows.specs.Sources.{own_sources};
 
 use int_polyhedra::{Proof, Term, by_cut};
 use plain_data::Items;
@@ -56,7 +58,7 @@ fn push_numbers(numbers: &mut Items<u32>, sources: &[Source], next: u32) -> Resu
     }
 }
 
-fn number_of(numbers: &[u32], row: u32) -> u32
+fn number_at(numbers: &[u32], row: u32) -> u32
     ensures { result ≡ slice_index_or numbers.now row 0 }
 {
     match numbers.get(row as usize) {
@@ -65,33 +67,52 @@ fn number_of(numbers: &[u32], row: u32) -> u32
     }
 }
 
-// Adds the terms with their rows' numbers.
-fn push_renumbered(out: &mut Items<Term>, numbers: &[u32], terms: &[Term]) -> Result<(), AllocError>
-    ensures { OnOk result (out.new ≡ out.old ++ renumbered numbers.now terms.now) }
+// The number of a row, where the first so many rows keep their own.
+fn number_of(numbers: &[u32], here: u32, row: u32) -> u32
+    ensures { result ≡ slice_index_or (range_with_len 0 here ++ numbers.now) row 0 }
+{
+    if row < here {
+        return row;
+    }
+    number_at(numbers, row - here)
+}
+
+// Adds the terms with their rows' numbers, where the first so many rows keep their own.
+fn push_renumbered(
+    out: &mut Items<Term>,
+    numbers: &[u32],
+    here: u32,
+    terms: &[Term],
+) -> Result<(), AllocError>
+    ensures { OnOk result
+        (out.new ≡ out.old ++ renumbered (range_with_len 0 here ++ numbers.now) terms.now) }
 {
     let Some((term, terms)) = terms.split_first() else {
         return Ok(());
     };
     out.push(Term {
-        row: number_of(numbers, term.row),
+        row: number_of(numbers, here, term.row),
         times: term.times,
     })?;
-    push_renumbered(out, numbers, terms)
+    push_renumbered(out, numbers, here, terms)
 }
 
-/// A Sum of the rows that the sources tell, as a proof of their system of so many rows: the Cuts, and then the Sum.
+/// A Sum of the rows that the sources tell behind so many rows of the system itself, as a proof of their system of so many
+/// rows: the Cuts, and then the Sum. It takes no time for the rows before.
 pub fn converted(
     alloc: Global,
+    here: u32,
     sources: &[Source],
     rows: u32,
     terms: &[Term],
 ) -> Result<Proof, AllocError>
     requires { rows + length sources.now < 2 ^ 32 }
-    ensures { IfOk result (λ proof. proof ≡ converted_sum sources.now rows terms.now) }
+    ensures { IfOk result
+        (λ proof. proof ≡ converted_sum (own_sources 0 here ++ sources.now) rows terms.now) }
 {
     let mut numbers = Items::new(alloc);
     push_numbers(&mut numbers, sources, rows)?;
     let mut sum = Items::new(alloc);
-    push_renumbered(&mut sum, numbers.as_slice(), terms)?;
+    push_renumbered(&mut sum, numbers.as_slice(), here, terms)?;
     with_cuts(alloc, sources, Proof::Sum(sum))
 }

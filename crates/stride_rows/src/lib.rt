@@ -14,6 +14,6 @@ pub use class::{in_stride_class, small_stride, stride_of};
 pub use cuts::{Cut, Source, converted};
 pub use law::{converted_sums_are_cut_sums, converted_sums_refute, differences_are_strides};
 pub use sources::{
-    cell_source, falls, is_turned, next_quotient, next_test, places_behind, push_cell, push_own,
-    row_source, size, write_sources,
+    cell_source, falls, is_turned, next_quotient, next_test, places_behind, push_cell, row_source,
+    size, write_sources,
 };

@@ -2,7 +2,7 @@ ghost use Rattle.std.specs.Prelude.{◌≡◌, ◌<◌, ◌≤◌, ◌+◌, ◌*
 ghost use Rattle.std.specs.List.{list_any};
 ghost use Rattle.std.specs.Ordering.{int_eq};
 ghost use Rattle.row_sums.specs.Parts.{IsWithin};
-ghost use Rattle.stride_rows.specs.Sources.{cell_source as cell_source_of, cell_sources, cut_of, domain_sources, falls as falls_of, is_turned as turned, next_place as next_place_of, own_sources, places_behind as places_left, row_source as row_source_of, subscript_sources, write_sources as write_sources_of};
+ghost use Rattle.stride_rows.specs.Sources.{cell_source as cell_source_of, cell_sources, cut_of, domain_sources, falls as falls_of, is_turned as turned, next_place as next_place_of, own_sources, places_behind as places_left, row_source as row_source_of, sources_behind, subscript_sources};
 
 use crate::class::{small_stride, stride_of};
 use crate::cuts::{Cut, Source};
@@ -154,8 +154,8 @@ pub fn push_cell(
     }
 }
 
-/// Adds so many rows from this number on.
-pub fn push_own(sources: &mut Items<Source>, first: u32, count: u32) -> Result<(), AllocError>
+// Adds so many rows from this number on.
+fn push_own(sources: &mut Items<Source>, first: u32, count: u32) -> Result<(), AllocError>
     requires { first + count < 2 ^ 32 }
     ensures { OnOk result (sources.new ≡ sources.old ++ own_sources first count) }
 {
@@ -256,8 +256,8 @@ fn push_subscripts(
     push_subscripts(sources, alloc, writes, number + 2, root, behind)
 }
 
-/// Where the rows of a system of a write before the read come from: `here` rows of the context, the writer's domain rows and
-/// subscripts, and `more` order rows. The tests of the write stand at these places behind `root` rows of the reader.
+/// Where the rows of a system of a write before the read come from behind `here` rows of the context: the writer's domain rows
+/// and subscripts, and `more` order rows. The tests of the write stand at these places behind `root` rows of the reader.
 pub fn write_sources(
     alloc: Global,
     rows: &[Row],
@@ -273,10 +273,9 @@ pub fn write_sources(
     requires rows { All (IsWithin (2 ^ 32)) rows.now }
     requires writes { All (IsWithin (2 ^ 32)) writes.now }
     ensures { IfOk result
-        (λ sources. sources ≡ write_sources_of rows.now writes.now root places.now here more) }
+        (λ sources. sources ≡ sources_behind rows.now writes.now root places.now here more) }
 {
     let mut sources = Items::new(alloc);
-    push_own(&mut sources, 0, here)?;
     push_domain(&mut sources, alloc, rows, here)?;
     let cells = here + rows.len() as u32;
     push_subscripts(&mut sources, alloc, writes, cells, root, places)?;

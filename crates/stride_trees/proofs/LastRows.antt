@@ -35,7 +35,8 @@ use Rattle.stride_rows.specs.Sources.{cut_of, divided_form, own_sources, row_sou
 use Rattle.stride_trees.specs.Strides.{IsSmallContext}
 use Rattle.stride_rows.specs.declared.cuts.Source.{Source}
 use Rattle.stride_rows.specs.declared.cuts.Source.TheVariants.{Own}
-use Rattle.stride_trees.proofs.SourceCuts.{added_all, added_behind, before_both, before_own, cuts_behind, cuts_few, TakeBefore}
+use Rattle.stride_rows.proofs.Behind.{cuts_behind}
+use Rattle.stride_trees.proofs.SourceCuts.{added_all, added_behind, before_both, before_own, cuts_few, TakeBefore}
 use Rattle.stride_rows.proofs.CutRows.{converted_is_cut_sum, converted_refutes, IsMultipleOf}
 use Rattle.stride_rows.proofs.WriterCuts.{outside_multiple}
 use Rattle.stride_rows.proofs.Floors.{floor_shifted}

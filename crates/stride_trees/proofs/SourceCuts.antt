@@ -41,9 +41,6 @@ pub cuts_own : (first n : ℕ) → cuts_of (own_sources first n) ≡ []
 cuts_own first zero = refl
 cuts_own first (suc n) = cuts_own (first + 1) n
 
-pub cuts_behind : (first n : ℕ) (more : List Source) → cuts_of (own_sources first n ++ more) ≡ cuts_of more
-cuts_behind first n more = cuts_append (own_sources first n) more ∙ ap (λ cuts. cuts ++ cuts_of more) (cuts_own first n)
-
 pub sources_count : (vars : ℕ) (rows : List Form) (sources : List Source) (told : List Form)
     → AreSources vars rows sources told → length sources ≡ length told
 sources_count vars rows [] [] h = refl

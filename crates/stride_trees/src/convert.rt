@@ -24,8 +24,7 @@ use int_polyhedra::{Proof, Term};
 use plain_data::Items;
 use std::alloc::{AllocError, Global};
 use stride_rows::{
-    Source, cell_source, converted, is_turned, next_test, places_behind, push_own, row_source,
-    write_sources,
+    Source, cell_source, converted, is_turned, next_test, places_behind, row_source, write_sources,
 };
 
 /// The terms of a Sum.
@@ -64,9 +63,8 @@ fn with_last(alloc: Global, here: u32, last: Source, proof: &Proof) -> Result<Pr
 {
     let terms = sum_terms(proof);
     let mut sources = Items::new(alloc);
-    push_own(&mut sources, 0, here)?;
     sources.push(last)?;
-    converted(alloc, sources.as_slice(), here + 1, terms)
+    converted(alloc, here, sources.as_slice(), here + 1, terms)
 }
 
 // The proof of the system of a write before the read, as it is made.
@@ -92,7 +90,7 @@ fn of_write(
     let root = s.read.statement.rows.len() as u32;
     let sources = write_sources(s.alloc, rows, writes, root, places, here, more)?;
     let count = here + (rows.len() as u32 + (2 * writes.len() as u32 + more));
-    converted(s.alloc, sources.as_slice(), count, terms)
+    converted(s.alloc, here, sources.as_slice(), count, terms)
 }
 
 /// The proof of the system of a write before the read, from that of the same system over quotients: a Sum. The context has

@@ -1,6 +1,7 @@
-use Rattle.std.proofs.Common.{◌^◌, length, sym, ap, subst, arith}
+use Rattle.std.proofs.Common.{◌^◌, length, length-append, sym, ap, subst, arith}
 use Rattle.std.specs.Prelude.{All}
 use Rattle.row_sums.specs.Parts.{IsWithin}
+use Rattle.stride_rows.specs.Sources.{own_sources, sources_behind}
 use Rattle.stride_trees.proofs.SourceCuts.{write_count}
 use Rattle.stride_trees.proofs.ProblemBounds.{all_within}
 use Rattle.stride_trees.proofs.TestNodes.{fitting_of}
@@ -85,14 +86,17 @@ overflow_add-count-3 c =
 pub converted-requires : goal.converted-requires
 converted-requires c =
     let f = fitting_of c.args.s.now c.requires.strided in
+    let rows = c.as_slice-rows.result.now in
+    let writes = c.as_slice-writes.result.now in
+    let root = c.len-root.result in
     omega (
       arith,
       ap length c.as_slice-rows.ensures,
       ap length c.as_slice-writes.ensures,
       ap length c.as_slice.ensures,
       ap length c.in_ok-sources.ensures,
-      write_count c.as_slice-rows.result.now c.as_slice-writes.result.now c.len-root.result c.args.places.now c.args.here
-          c.args.more,
+      length-append (own_sources 0 c.args.here) (sources_behind rows writes root c.args.places.now c.args.here c.args.more),
+      write_count rows writes root c.args.places.now c.args.here c.args.more,
       f.few_rows,
       f.few_subscripts,
       c.requires.here,

@@ -34,7 +34,7 @@ use candidate_order::{
     absence_of, best_of, compare_points, copy_rows, exclusion, follow, level_count, own_rows,
     test_of_next_loop, unopened,
 };
-use difference_graphs::{once, opposite};
+use difference_graphs::{Search, once, opposite};
 use empty_contexts::dead_leaf;
 use int_polyhedra::{Proof, System, Term};
 use plain_data::Items;
@@ -139,6 +139,7 @@ fn push_others(rest: &mut Items<u32>, left: &[u32], number: u32) -> Result<(), A
 fn exclusions(
     alloc: Global,
     context: &System,
+    search: &mut Search,
     best: &Position,
     candidate: &Candidate,
 ) -> Result<Option<Items<Items<Term>>>, AllocError>
@@ -159,7 +160,7 @@ fn exclusions(
     let place = forms.as_slice();
     let mut sums = Items::new(alloc);
     for level in 0..level_count(&first, &second) {
-        let found = exclusion(context, candidate, place, level, level < common)?;
+        let found = exclusion(context, search, candidate, place, level, level < common)?;
         match found {
             Some(terms) => sums.push(terms)?,
             None => return Ok(None),
@@ -170,7 +171,12 @@ fn exclusions(
 
 // The first of the candidates left that is not excluded. Those that are excluded here are asked
 // again further down.
-fn choose(state: &State, left: &[u32], mut out: Items<Excluded>) -> Result<Choice, AllocError>
+fn choose(
+    state: &State,
+    search: &mut Search,
+    left: &[u32],
+    mut out: Items<Excluded>,
+) -> Result<Choice, AllocError>
     requires path { IsPath state.now 0 None }
     requires rest { IsChoiceSoFar state.now left.now out }
     ensures { IfOk result (IsChoice state.now) }
@@ -180,13 +186,13 @@ fn choose(state: &State, left: &[u32], mut out: Items<Excluded>) -> Result<Choic
     };
     let candidate = &state.candidates[*number as usize];
     let Some(best) = state.best else {
-        let absent = absence_of(state.context, candidate)?;
+        let absent = absence_of(state.context, search, candidate)?;
         if let Some(terms) = absent {
             return Ok(Choice::Absent(*number, terms));
         }
         return Ok(Choice::Take(*number));
     };
-    let found = exclusions(state.read.alloc, state.context, best, candidate)?;
+    let found = exclusions(state.read.alloc, state.context, search, best, candidate)?;
     match found {
         Some(sums) => {
             out.push(Excluded {
@@ -194,7 +200,7 @@ fn choose(state: &State, left: &[u32], mut out: Items<Excluded>) -> Result<Choic
                 level: candidate.writes.level,
                 sums,
             })?;
-            choose(state, left, out)
+            choose(state, search, left, out)
         }
         None => Ok(Choice::Take(*number)),
     }
@@ -422,7 +428,8 @@ fn choose_on<'a>(task: &Task<'a>, walk: &mut Walk<'a>) -> Result<Step<'a>, Alloc
     ensures { IfOk result (GoesOn task.now (turns_left walk.old (Step.On Next.Choose)) walk.new) }
 {
     let state = state_of(task, &*walk);
-    let choice = choose(&state, state.left, Items::new(task.read.alloc))?;
+    let mut search = Search::new(task.read.alloc);
+    let choice = choose(&state, &mut search, state.left, Items::new(task.read.alloc))?;
     match choice {
         Choice::End(excluded) => {
             let tree = leaf(&state, excluded.as_slice())?;

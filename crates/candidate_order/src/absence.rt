@@ -18,8 +18,8 @@ ghost use Rattle.source_tree.specs.Systems.{Occurrence};
 use crate::candidates::Candidate;
 use affine_core::Form;
 use difference_graphs::{
-    Bound, Bounds, Closure, Cycle, Edge, append, append_from, form_beyond, known, negative,
-    opposite, raised, sum,
+    Bound, Bounds, Closure, Cycle, Edge, Search, append, append_from, form_beyond, known_by,
+    negative, opposite, raised, sum,
 };
 use int_polyhedra::{System, Term};
 use plain_data::Items;
@@ -38,7 +38,11 @@ fn refutation(context: &System, shown: &[Term], rows: &[Term]) -> Result<Items<T
 }
 
 // By the first of these cycles that is known to be below 0.
-fn by_cycles(context: &System, cycles: &[Cycle]) -> Result<Option<Items<Term>>, AllocError>
+fn by_cycles(
+    context: &System,
+    search: &mut Search,
+    cycles: &[Cycle],
+) -> Result<Option<Items<Term>>, AllocError>
     requires context { IsContext context.now }
     requires cycles { (edges : List EdgeOf) × AreRefuting context.now edges
         × All (IsCycle context.now.vars edges) cycles.now }
@@ -51,13 +55,13 @@ fn by_cycles(context: &System, cycles: &[Cycle]) -> Result<Option<Items<Term>>, 
     let Some((cycle, cycles)) = cycles.split_first() else {
         return Ok(None);
     };
-    let found = known(context, &opposite(&cycle.form))?;
+    let found = known_by(context, search, &opposite(&cycle.form))?;
     match found {
         Some(shown) => {
             let rows = cycle.terms.as_slice();
             Ok(Some(refutation(context, shown.as_slice(), rows)?))
         }
-        None => by_cycles(context, cycles),
+        None => by_cycles(context, search, cycles),
     }
 }
 
@@ -66,6 +70,7 @@ fn by_cycles(context: &System, cycles: &[Cycle]) -> Result<Option<Items<Term>>, 
 /// itself tells that a cycle through 0 that the candidate keeps is below 0; it doesn't say that there is such a write.
 pub fn absence_of(
     context: &System,
+    search: &mut Search,
     candidate: &Candidate,
 ) -> Result<Option<Items<Term>>, AllocError>
     requires candidate { (r : ReadOf) × IsCandidate r candidate.now }
@@ -76,7 +81,7 @@ pub fn absence_of(
 {
     match &candidate.closure {
         Closure::Negative(rows) => Ok(Some(refutation(context, &[], rows.as_slice())?)),
-        Closure::Closed(_) => by_cycles(context, candidate.cycles.as_slice()),
+        Closure::Closed(_) => by_cycles(context, search, candidate.cycles.as_slice()),
     }
 }
 
@@ -133,6 +138,7 @@ struct Numbered<'a> {
 // The rows of an edge from 0, a path and an edge back to 0, where their sum is known to be below 0.
 fn by_round(
     context: &System,
+    search: &mut Search,
     out: &Edge,
     out_number: u32,
     bound: &Bound,
@@ -148,7 +154,7 @@ fn by_round(
         → IsContradicted context.now edges ts)) }
 {
     let form = form_beyond(&sum(&out.weight, &back.weight), bound);
-    let found = known(context, &opposite(&form))?;
+    let found = known_by(context, search, &opposite(&form))?;
     let Some(shown) = found else {
         return Ok(None);
     };
@@ -168,6 +174,7 @@ fn by_round(
 // By this edge, if it is one from 0, and this edge back to 0.
 fn by_out(
     context: &System,
+    search: &mut Search,
     bounds: &Bounds,
     zero: usize,
     out: &Edge,
@@ -189,12 +196,13 @@ fn by_out(
     let Some(bound) = bounds.at(out.to, back.from) else {
         return Ok(None);
     };
-    by_round(context, out, number, bound, back, back_number)
+    by_round(context, search, out, number, bound, back, back_number)
 }
 
 // By one of these edges from 0, the last one first, and this edge back to it. The first one has this number.
 fn by_outs(
     context: &System,
+    search: &mut Search,
     bounds: &Bounds,
     zero: usize,
     outs: &[Edge],
@@ -212,16 +220,35 @@ fn by_outs(
     let Some((out, outs)) = outs.split_first() else {
         return Ok(None);
     };
-    let found = by_outs(context, bounds, zero, outs, number + 1, back, back_number)?;
+    let found = by_outs(
+        context,
+        search,
+        bounds,
+        zero,
+        outs,
+        number + 1,
+        back,
+        back_number,
+    )?;
     match found {
         Some(terms) => Ok(Some(terms)),
-        None => by_out(context, bounds, zero, out, number, back, back_number),
+        None => by_out(
+            context,
+            search,
+            bounds,
+            zero,
+            out,
+            number,
+            back,
+            back_number,
+        ),
     }
 }
 
 // By one of these edges from 0 and this edge, if it is one back to 0.
 fn by_back(
     context: &System,
+    search: &mut Search,
     bounds: &Bounds,
     zero: usize,
     outs: Numbered,
@@ -240,12 +267,15 @@ fn by_back(
     if back.to != zero || back.from == zero {
         return Ok(None);
     }
-    by_outs(context, bounds, zero, outs.edges, outs.first, back, number)
+    by_outs(
+        context, search, bounds, zero, outs.edges, outs.first, back, number,
+    )
 }
 
 // By one of these edges from 0 and one of these edges back to it, the last one first. The first of those has this number.
 fn by_rounds(
     context: &System,
+    search: &mut Search,
     bounds: &Bounds,
     zero: usize,
     outs: Numbered,
@@ -263,10 +293,10 @@ fn by_rounds(
     let Some((back, backs)) = backs.split_first() else {
         return Ok(None);
     };
-    let found = by_rounds(context, bounds, zero, outs, backs, number + 1)?;
+    let found = by_rounds(context, search, bounds, zero, outs, backs, number + 1)?;
     match found {
         Some(terms) => Ok(Some(terms)),
-        None => by_back(context, bounds, zero, outs, back, number),
+        None => by_back(context, search, bounds, zero, outs, back, number),
     }
 }
 
@@ -274,6 +304,7 @@ fn by_rounds(
 // domain, and the last order row, so these are looked at first.
 fn by_orders(
     context: &System,
+    search: &mut Search,
     candidate: &Candidate,
     bounds: &Bounds,
     orders: &[Edge],
@@ -297,15 +328,15 @@ fn by_orders(
         edges: own,
         first: 0,
     };
-    let by_first = by_rounds(context, bounds, zero, first, orders, behind)?;
+    let by_first = by_rounds(context, search, bounds, zero, first, orders, behind)?;
     if let Some(terms) = by_first {
         return Ok(Some(terms));
     }
-    let by_order = by_rounds(context, bounds, zero, order, orders, behind)?;
+    let by_order = by_rounds(context, search, bounds, zero, order, orders, behind)?;
     if let Some(terms) = by_order {
         return Ok(Some(terms));
     }
-    by_rounds(context, bounds, zero, order, own, 0)
+    by_rounds(context, search, bounds, zero, order, own, 0)
 }
 
 /// Terms that refute that a write of the candidate stands after a place at this level, where one cycle of the candidate's
@@ -314,6 +345,7 @@ fn by_orders(
 /// of the place.
 pub fn exclusion(
     context: &System,
+    search: &mut Search,
     candidate: &Candidate,
     place: &[Form],
     level: usize,
@@ -331,14 +363,14 @@ pub fn exclusion(
     ensures none { IfOk result (λ found. IfNone found (NoRowRefutes context.now candidate.now)) }
 {
     let Closure::Closed(bounds) = &candidate.closure else {
-        return absence_of(context, candidate);
+        return absence_of(context, search, candidate);
     };
     let zero = candidate.writes.depth();
     let mut orders = Items::new(candidate.writes.alloc);
     push_order_edges(&mut orders, place, 0, zero, level, within)?;
-    let found = by_orders(context, candidate, bounds, orders.as_slice())?;
+    let found = by_orders(context, search, candidate, bounds, orders.as_slice())?;
     match found {
         Some(terms) => Ok(Some(terms)),
-        None => absence_of(context, candidate),
+        None => absence_of(context, search, candidate),
     }
 }

@@ -10,7 +10,7 @@ use crate::terms::{once, sum_with_row};
 use affine_core::{Form, Row};
 use int_polyhedra::{System, Term, entails};
 use plain_data::Items;
-use std::alloc::AllocError;
+use std::alloc::{AllocError, Global};
 
 // The most that the multipliers of a fact may add up to.
 const MOST: i128 = 1 << 16;
@@ -69,37 +69,56 @@ struct Step {
     row: u32,
 }
 
-// The rows of a context: those that bound differences, and the numbers of the others.
+/// What is kept of a context between the forms that are looked for in it: once one was, its rows that bound differences, the
+/// numbers of the others, and per node that a way was looked for from how each node is reached from it. Nothing is promised of
+/// it, and nothing rests on it, since what is found is confirmed.
 #[derive(Drop)]
-struct Sorted {
+pub struct Search {
+    is_begun: bool,
     steps: Items<Step>,
     others: Items<u32>,
+    reached: Items<Option<Items<Option<Arrival>>>>,
+}
+
+impl Search {
+    /// A search by which nothing was looked for yet.
+    pub fn new(alloc: Global) -> Search {
+        Search {
+            is_begun: false,
+            steps: Items::new(alloc),
+            others: Items::new(alloc),
+            reached: Items::new(alloc),
+        }
+    }
 }
 
 // Adds these rows, of which the first has this number.
-fn push_sorted(sorted: &mut Sorted, number: u32, rows: &[Row]) -> Result<(), AllocError> {
+fn push_sorted(search: &mut Search, number: u32, rows: &[Row]) -> Result<(), AllocError> {
     let Some((row, rows)) = rows.split_first() else {
         return Ok(());
     };
     match ends_of(row) {
-        Some(ends) => sorted.steps.push(Step {
+        Some(ends) => search.steps.push(Step {
             ends,
             constant: row.constant,
             row: number,
         })?,
-        None => sorted.others.push(number)?,
+        None => search.others.push(number)?,
     }
-    push_sorted(sorted, number.wrapping_add(1), rows)
+    push_sorted(search, number.wrapping_add(1), rows)
 }
 
-fn sorted_rows(context: &System) -> Result<Sorted, AllocError> {
-    let alloc = context.rows.allocator();
-    let mut sorted = Sorted {
-        steps: Items::new(alloc),
-        others: Items::new(alloc),
-    };
-    push_sorted(&mut sorted, 0, context.rows.as_slice())?;
-    Ok(sorted)
+// Sorts the rows of a context, unless that is done.
+fn begin(context: &System, search: &mut Search) -> Result<(), AllocError> {
+    if search.is_begun {
+        return Ok(());
+    }
+    search.is_begun = true;
+    push_sorted(search, 0, context.rows.as_slice())?;
+    for _ in 0..context.vars as usize + 1 {
+        search.reached.push(None)?;
+    }
+    Ok(())
 }
 
 // Betters the arrival at the end of a row, and answers whether it did.
@@ -199,16 +218,43 @@ fn append_way(
     }
 }
 
+// Finds how each node is reached from this one, where that wasn't asked yet.
+fn reach(context: &System, search: &mut Search, start: usize) -> Result<(), AllocError> {
+    let Some(None) = search.reached.get(start) else {
+        return Ok(());
+    };
+    let found = arrivals(context, search.steps.as_slice(), start)?;
+    if start < search.reached.len() {
+        search.reached.set(start, Some(found));
+    }
+    Ok(())
+}
+
+// Adds the rows on the way from one node to another, a number of times each, and answers their sum, or `None` where there
+// is no way.
+fn append_between(
+    terms: &mut Items<Term>,
+    context: &System,
+    search: &mut Search,
+    ends: Ends,
+    times: i128,
+) -> Result<Option<i128>, AllocError> {
+    reach(context, search, ends.from)?;
+    match search.reached.get(ends.from) {
+        Some(Some(found)) => append_way(terms, found, ends.from, ends.to, times),
+        _ => Ok(None),
+    }
+}
+
 // Rows whose sum may be a form that is a difference, less a number.
 fn by_way(
     context: &System,
-    steps: &[Step],
+    search: &mut Search,
     form: &Form,
     ends: Ends,
 ) -> Result<Option<Items<Term>>, AllocError> {
     let mut terms = Items::new(context.rows.allocator());
-    let found = arrivals(context, steps, ends.from)?;
-    match append_way(&mut terms, &found, ends.from, ends.to, 1)? {
+    match append_between(&mut terms, context, search, ends, 1)? {
         Some(sum) => {
             if sum <= form.constant {
                 Ok(Some(terms))
@@ -225,8 +271,7 @@ fn by_way(
 fn append_bound(
     terms: &mut Items<Term>,
     context: &System,
-    steps: &[Step],
-    above: &Items<Option<Arrival>>,
+    search: &mut Search,
     variable: usize,
     coef: i128,
 ) -> Result<Option<i128>, AllocError> {
@@ -234,29 +279,37 @@ fn append_bound(
     if coef == 0 {
         return Ok(Some(0));
     }
-    if coef > 0 {
-        let below = arrivals(context, steps, variable)?;
-        let sum = append_way(terms, &below, variable, none, coef)?;
-        return Ok(sum.and_then(|sum| sum.checked_mul(coef)));
-    }
-    let Some(times) = coef.checked_neg() else {
-        return Ok(None);
+    let (ends, times) = if coef > 0 {
+        (
+            Ends {
+                from: variable,
+                to: none,
+            },
+            coef,
+        )
+    } else {
+        (
+            Ends {
+                from: none,
+                to: variable,
+            },
+            coef.saturating_neg(),
+        )
     };
-    let sum = append_way(terms, above, none, variable, times)?;
+    let sum = append_between(terms, context, search, ends, times)?;
     Ok(sum.and_then(|sum| sum.checked_mul(times)))
 }
 
 // Rows whose sum may be a form less a number, by the bounds of each variable by itself.
 fn by_box(
     context: &System,
-    steps: &[Step],
+    search: &mut Search,
     form: &Form,
 ) -> Result<Option<Items<Term>>, AllocError> {
     let mut terms = Items::new(context.rows.allocator());
-    let above = arrivals(context, steps, context.vars as usize)?;
     let mut least = form.constant;
     for (variable, coef) in form.coefs.as_slice().iter().enumerate() {
-        let Some(bound) = append_bound(&mut terms, context, steps, &above, variable, *coef)? else {
+        let Some(bound) = append_bound(&mut terms, context, search, variable, *coef)? else {
             return Ok(None);
         };
         least = least.saturating_sub(bound);
@@ -270,7 +323,7 @@ fn by_box(
 // Rows whose sum may be a form less a number: none for a number, a way for a difference, and else a box.
 fn by_bounds(
     context: &System,
-    steps: &[Step],
+    search: &mut Search,
     form: &Form,
 ) -> Result<Option<Items<Term>>, AllocError> {
     if is_constant(form) {
@@ -280,8 +333,8 @@ fn by_bounds(
         return Ok(Some(Items::new(context.rows.allocator())));
     }
     match ends_of(form) {
-        Some(ends) => by_way(context, steps, form, ends),
-        None => by_box(context, steps, form),
+        Some(ends) => by_way(context, search, form, ends),
+        None => by_box(context, search, form),
     }
 }
 
@@ -333,38 +386,42 @@ fn rest_of(form: &Form, row: &Row) -> Option<Form> {
     Some(rest)
 }
 
-// Bounds, and one of the rows of these numbers besides.
+// Bounds, and one of the other rows besides.
 fn by_other_row(
     context: &System,
-    steps: &[Step],
-    others: &[u32],
+    search: &mut Search,
     form: &Form,
 ) -> Result<Option<Items<Term>>, AllocError> {
-    let Some((number, others)) = others.split_first() else {
-        return Ok(None);
-    };
-    let Some(row) = context.rows.get(*number as usize) else {
-        return Ok(None);
-    };
-    if let Some(rest) = rest_of(form, row) {
-        if let Some(mut terms) = by_bounds(context, steps, &rest)? {
-            terms.push(Term {
-                row: *number,
-                times: 1,
-            })?;
-            return Ok(Some(terms));
+    for at in 0..search.others.len() {
+        let Some(number) = search.others.get(at).copied() else {
+            return Ok(None);
+        };
+        let Some(row) = context.rows.get(number as usize) else {
+            return Ok(None);
+        };
+        if let Some(rest) = rest_of(form, row) {
+            if let Some(mut terms) = by_bounds(context, search, &rest)? {
+                terms.push(Term {
+                    row: number,
+                    times: 1,
+                })?;
+                return Ok(Some(terms));
+            }
         }
     }
-    by_other_row(context, steps, others, form)
+    Ok(None)
 }
 
 // Rows whose sum may be the form less a number that is not below 0. Nothing is promised of them.
-fn search(context: &System, form: &Form) -> Result<Option<Items<Term>>, AllocError> {
-    let sorted = sorted_rows(context)?;
-    let steps = sorted.steps.as_slice();
-    match by_bounds(context, steps, form)? {
+fn candidate_rows(
+    context: &System,
+    search: &mut Search,
+    form: &Form,
+) -> Result<Option<Items<Term>>, AllocError> {
+    begin(context, search)?;
+    match by_bounds(context, search, form)? {
         Some(terms) => Ok(Some(terms)),
-        None => by_other_row(context, steps, sorted.others.as_slice(), form),
+        None => by_other_row(context, search, form),
     }
 }
 
@@ -399,12 +456,16 @@ fn are_confirmed(context: &System, form: &Form, terms: &[Term]) -> Result<bool, 
 
 // Terms that were searched for and then confirmed. `None` says nothing.
 #[tactic(auto, using(crate::proofs::FactLemmas::fact_is))]
-fn by_search(context: &System, form: &Form) -> Result<Option<Items<Term>>, AllocError>
+fn by_search(
+    context: &System,
+    search: &mut Search,
+    form: &Form,
+) -> Result<Option<Items<Term>>, AllocError>
     requires context { IsContext context.now }
     requires over { length form.now.coefs ≡ context.now.vars }
     ensures { IfOk result (λ found. IfSome found (IsFact context.now 65536 (form_parts form.now))) }
 {
-    let Some(terms) = search(context, form)? else {
+    let Some(terms) = candidate_rows(context, search, form)? else {
         return Ok(None);
     };
     if !are_light(terms.as_slice(), context.rows.len(), MOST) {
@@ -419,8 +480,12 @@ fn by_search(context: &System, form: &Form) -> Result<Option<Items<Term>>, Alloc
 /// Terms whose sum is the form less a number that is not below 0, so that the form is at least 0 wherever the context's
 /// rows are. A row that by itself is such is looked for first, then others are searched for and confirmed; no clause says
 /// which terms come. `None` says that no row by itself is such, and nothing else. Their multipliers add up to 65,536 at
-/// most.
-pub fn known(context: &System, form: &Form) -> Result<Option<Items<Term>>, AllocError>
+/// most. The search goes on from one form to the next of one context; by that of another context fewer forms may be known.
+pub fn known_by(
+    context: &System,
+    search: &mut Search,
+    form: &Form,
+) -> Result<Option<Items<Term>>, AllocError>
     requires context { IsContext context.now }
     requires over { length form.now.coefs ≡ context.now.vars }
     ensures some { IfOk result
@@ -429,8 +494,20 @@ pub fn known(context: &System, form: &Form) -> Result<Option<Items<Term>>, Alloc
 {
     match row_with(context.rows.as_slice(), 0, form) {
         Some(number) => Ok(Some(once(context.rows.allocator(), number)?)),
-        None => by_search(context, form),
+        None => by_search(context, search, form),
     }
+}
+
+/// The same, of one form.
+pub fn known(context: &System, form: &Form) -> Result<Option<Items<Term>>, AllocError>
+    requires context { IsContext context.now }
+    requires over { length form.now.coefs ≡ context.now.vars }
+    ensures some { IfOk result
+        (λ found. IfSome found (IsFact context.now 65536 (form_parts form.now))) }
+    ensures none { IfOk result (λ found. IfNone found (NoRowTells context.now.rows form.now)) }
+{
+    let mut search = Search::new(context.rows.allocator());
+    known_by(context, &mut search, form)
 }
 
 /// What a context tells of a form.

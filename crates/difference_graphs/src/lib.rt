@@ -21,7 +21,7 @@ pub use branches::test;
 pub use closure::{Bound, Bounds, Closure, closure_of, form_beyond};
 pub use cycles::{Cycle, Graph, cycles_of, with_row};
 pub use edges::{Edge, edges_of};
-pub use facts::{Sign, known, sign_of};
+pub use facts::{Search, Sign, known, known_by, sign_of};
 pub use forms::{difference, negative, opposite, raised, sum};
 pub use terms::{append, append_from, joined, once, sum_with_row};
 pub use writes::Writes;

@@ -24,8 +24,8 @@ opposite-requires t c =
     (subst (All (IsCycle c.args.context.now.vars h.0)) first h.2) in
     IsWithin-weaker (2 ^ 40) (2 ^ 60) c.in-Some.cycle.now.form (omega arith) one.within
 
-pub known-requires-clause-over : goal.known-requires-clause-over
-known-requires-clause-over t c =
+pub known_by-requires-clause-over : goal.known_by-requires-clause-over
+known_by-requires-clause-over t c =
     let h = c.requires.cycles in
     let first : c.args.cycles.now ≡ c.in-Some.cycle.now ∷ c.in-Some.cycles.now = search rules in
     let one : IsCycle c.args.context.now.vars h.0 c.in-Some.cycle.now

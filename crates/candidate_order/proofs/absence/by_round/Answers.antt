@@ -57,8 +57,8 @@ opposite-requires c =
     subst (IsWithin (2 ^ 60)) (sym is) (form_small a.0 c.args.context.now.vars c.args.out.now c.args.back.now
     c.args.bound.now c.args.out_number c.args.back_number a.2)
 
-pub known-requires-clause-over : goal.known-requires-clause-over
-known-requires-clause-over c =
+pub known_by-requires-clause-over : goal.known_by-requires-clause-over
+known_by-requires-clause-over c =
     let a = c.requires.round in
     let is = form_is c.args.out.now c.args.back.now c.args.bound.now c.sum.result c.form_beyond-form.result
     c.sum.ensures c.form_beyond-form.ensures in

@@ -6,7 +6,7 @@ use Rattle.difference_graphs.specs.Facts.{form_parts, IsFact, NoRowTells, RowTel
 use Rattle.difference_graphs.specs.Paths.{term_of}
 use Rattle.difference_graphs.proofs.FactLemmas.{none_told}
 use Rattle.difference_graphs.proofs.FactSums.{row_fact}
-use Rattle.difference_graphs.proofs.facts.known.Goals as goal
+use Rattle.difference_graphs.proofs.facts.known_by.Goals as goal
 
 pub row_with-requires : goal.row_with-requires
 row_with-requires c = omega (arith, ap length c.as_slice.ensures, c.requires.context.few)

@@ -23,12 +23,12 @@ ghost use Rattle.source_tree.specs.Systems.{every, write_systems, Occurrence};
 use crate::path::State;
 use affine_core::KeptForm;
 use candidate_order::{
-    Absence, Equality, Order, Outcome, Position, Problem, carried, level_count, outcome_of, places,
+    Absence, Equality, Order, Outcome, Position, Problem, carried, carried_behind, level_count,
+    outcome_of, places,
 };
 use difference_graphs::append;
 use int_polyhedra::{Proof, Term};
 use plain_data::Items;
-use row_sums::carry;
 use source_tree::Tree;
 use std::alloc::{AllocError, Global};
 
@@ -81,13 +81,9 @@ fn without(alloc: Global, absence: &Absence, here: u32) -> Result<Proof, AllocEr
         absence.now.candidate.now.writes.level w place q proof) }
     ensures sum { IfOk result IsSum }
 {
-    let sums = places(
-        alloc,
-        absence.rows.as_slice(),
-        here,
-        absence.candidate.edges.len(),
-    )?;
-    let terms = carry(alloc, sums.as_slice(), absence.terms.as_slice())?;
+    let further = absence.candidate.edges.len();
+    let rows = absence.rows.as_slice();
+    let terms = carried_behind(alloc, rows, here, further, absence.terms.as_slice())?;
     Ok(Proof::Sum(terms))
 }
 

@@ -9,3 +9,4 @@ pub mod TreeNodes
 pub mod OrderEdges
 pub mod Outcomes
 pub mod Rounds
+mod PlacesBehind

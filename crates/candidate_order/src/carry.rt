@@ -2,12 +2,13 @@ ghost use Rattle.std.specs.Prelude.{◌≡◌, ◌<◌, ◌+◌, ◌^◌, ◌++�
 ghost use Rattle.int_polyhedra.specs.declared.system.Term.{Term as TermOf};
 ghost use Rattle.difference_graphs.specs.Joint.{IsSum};
 ghost use Rattle.candidate_order.specs.Positions.{own_sums};
-ghost use Rattle.row_sums.specs.Carried.{carried_terms, sum_in_place, CarryFits};
+ghost use Rattle.row_sums.specs.Carried.{carried_terms, sum_in_place, CarryFits, ProductsFit};
+ghost use Rattle.row_sums.specs.Parts.{term_products};
 
 use difference_graphs::once;
 use int_polyhedra::{Proof, Term};
 use plain_data::Items;
-use row_sums::carry;
+use row_sums::{append_place, carry};
 use std::alloc::{AllocError, Global};
 
 /// The same lists of terms.
@@ -60,6 +61,73 @@ pub fn places(
     let mut sums = copy_rows(alloc, rows)?;
     push_own_rows(&mut sums, alloc, here, further)?;
     Ok(sums)
+}
+
+// Adds what is in place of one row, a number of times.
+fn push_place(
+    out: &mut Items<Term>,
+    rows: &[Items<Term>],
+    here: u32,
+    further: usize,
+    by: i128,
+    row: u32,
+) -> Result<(), AllocError>
+    requires few { here + further < 2 ^ 32 }
+    requires fit { ProductsFit by (sum_in_place (rows.now ++ own_sums here further) row) }
+    ensures { OnOk result (out.new
+        ≡ out.old ++ term_products by (sum_in_place (rows.now ++ own_sums here further) row)) }
+{
+    let at = row as usize;
+    if at < rows.len() {
+        return append_place(out, rows, by, row);
+    }
+    let behind = at - rows.len();
+    if behind < further {
+        return out.push(Term {
+            row: here + behind as u32,
+            times: by,
+        });
+    }
+    Ok(())
+}
+
+// Adds the terms with what is in place of their rows.
+fn push_behind(
+    out: &mut Items<Term>,
+    rows: &[Items<Term>],
+    here: u32,
+    further: usize,
+    terms: &[Term],
+) -> Result<(), AllocError>
+    requires few { here + further < 2 ^ 32 }
+    requires fit { CarryFits (rows.now ++ own_sums here further) terms.now }
+    ensures { OnOk result (out.new ≡ out.old
+        ++ carried_terms (sum_in_place (rows.now ++ own_sums here further)) terms.now) }
+{
+    let Some((term, terms)) = terms.split_first() else {
+        return Ok(());
+    };
+    push_place(out, rows, here, further, term.times, term.row)?;
+    push_behind(out, rows, here, further, terms)
+}
+
+/// The terms of a system of a candidate in the joined system: those that show its row in place of each of the first rows, and
+/// for so many further rows those in their places behind the joined context, which has `here` rows.
+pub fn carried_behind(
+    alloc: Global,
+    rows: &[Items<Term>],
+    here: u32,
+    further: usize,
+    terms: &[Term],
+) -> Result<Items<Term>, AllocError>
+    requires few { here + further < 2 ^ 32 }
+    requires fit { CarryFits (rows.now ++ own_sums here further) terms.now }
+    ensures { IfOk result (λ out. out
+        ≡ carried_terms (sum_in_place (rows.now ++ own_sums here further)) terms.now) }
+{
+    let mut out = Items::new(alloc);
+    push_behind(&mut out, rows, here, further, terms)?;
+    Ok(out)
 }
 
 /// The proof, where each row of its system has these terms in its place. A candidate's proofs are Sums.

@@ -6,4 +6,4 @@
 
 mod replace;
 
-pub use replace::carry;
+pub use replace::{append_place, carry};

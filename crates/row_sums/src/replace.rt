@@ -20,8 +20,8 @@ fn append_multiplied(out: &mut Items<Term>, by: i128, terms: &[Term]) -> Result<
     append_multiplied(out, by, rest)
 }
 
-// The sum in place of one row, a number of times.
-fn append_place(
+/// Adds the sum in place of one row, a number of times.
+pub fn append_place(
     out: &mut Items<Term>,
     sums: &[Items<Term>],
     by: i128,

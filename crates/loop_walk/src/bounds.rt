@@ -10,10 +10,7 @@ ghost use Rattle.loop_walk.specs.Counting.{IsLoopRange, are_loop_values};
 
 use crate::vector::LoopValues;
 use affine_core::Form;
-use sanlp::{add_product, moderate};
-
-/// The greatest absolute value of a form of an entered loop.
-const LOOP_VALUE_LIMIT: i128 = 4_611_686_018_427_387_904;
+use sanlp::{LOOP_VALUE_LIMIT, add_product, moderate};
 
 /// The value of a form. Its coefficients are so small that at values of 64 bits no sum leaves 128 bits.
 #[tactic(auto, using(sanlp::proofs::ModerateForms::as_many))]
@@ -67,8 +64,7 @@ fn all_forms_within(forms: &[Form], at: &LoopValues) -> bool
     ensures { result ≡ all_within forms.now at.now }
 {
     for form in forms {
-        let value = form_value(form, at);
-        if value < -LOOP_VALUE_LIMIT || value > LOOP_VALUE_LIMIT {
+        if form_value(form, at).unsigned_abs() > LOOP_VALUE_LIMIT {
             return false;
         }
     }

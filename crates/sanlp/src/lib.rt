@@ -23,4 +23,4 @@ pub use nest::{
 };
 pub use order::{before, common_loops};
 pub use reads::reads_before;
-pub use wide::{add_product, moderate};
+pub use wide::{LOOP_VALUE_LIMIT, add_product, moderate};

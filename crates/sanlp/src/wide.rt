@@ -3,6 +3,9 @@
 ghost use Rattle.std.specs.Prelude.{◌≡◌, ◌≤◌, ◌+ℤ◌, ◌*ℤ◌, unsigned_abs, IsTrue};
 ghost use Rattle.sanlp.specs.WellFormed.{is_moderate};
 
+/// The greatest absolute value of a form of an entered loop, and so of a loop's variable.
+pub const LOOP_VALUE_LIMIT: u128 = 4_611_686_018_427_387_904;
+
 /// A moderate coefficient in 64 bits.
 pub fn moderate(coef: i128) -> i64
     requires { IsTrue (is_moderate coef) }

@@ -8,7 +8,7 @@ use Rattle.std.proofs.Common.{◌≡◌, ◌≤◌, ℕ, ℤ, List, [], sym, ap,
 use Rattle.std.specs.Prelude.{All, IsTrue, Some, get_or, slice_get, unsigned_abs}
 use Rattle.std.proofs.lemmas.Option.{get_or_from_slice_get, slice_get_within}
 use Rattle.net_core.proofs.FireValues.{turn_entry}
-use Rattle.net_maker.specs.MadePoints.{NeverOverflowsAt}
+use Rattle.net_maker.specs.StatementPoints.{NeverOverflowsIn}
 use Rattle.net_maker.proofs.LoopValues.{AreLoopValues, entry_values, value_fits, value_size}
 use Rattle.sanlp.specs.declared.nest.Nest.{Nest}
 use Rattle.sanlp.specs.Points.{points_of}
@@ -38,7 +38,7 @@ values_fit at values =
     (λ v small. value_fits v (value_size v small)) values)
 
 pub small_never : (n : Nest) (s k : ℕ) (tree : Tree) → SizeIsOk n → IsChecked n s k tree
-    → NeverOverflows 4611686018427387904 tree → NeverOverflowsAt n s tree
+    → NeverOverflows 4611686018427387904 tree → NeverOverflowsIn n s tree
 small_never n s k tree ok checked never f at is none =
     let vectors : List (List ℤ) = get_or (points_of n) s [] in
     let e = turn_entry n s f (slice_get_within vectors f at is) in

@@ -1,2 +1,2 @@
-pub mod MadePoints
+pub mod StatementPoints
 pub mod Origins

@@ -1,7 +1,7 @@
-ghost use Rattle.std.specs.Prelude.{◌≡◌, ◌<◌, ◌+◌, ◌↔◌, ℕ, ℤ, List, [], None, Some, length, slice_get, slice_index_or, IfOk, IfSome, IsTrue, OnOk};
+ghost use Rattle.std.specs.Prelude.{◌≡◌, ◌<◌, ◌+◌, ◌↔◌, ℕ, ℤ, List, [], None, Some, length, slice_get, slice_index_or, IfOk, IfSome, IsSomeAnd, IsTrue, OnOk};
 ghost use Rattle.net_checker.specs.Shapes.{read_total};
 ghost use Rattle.net_maker.specs.Origins.{HasOrigins, IsUsableOrigin};
-ghost use Rattle.net_maker.specs.MadePoints.{ArePoints, IsMade, NeverOverflowsAt};
+ghost use Rattle.net_maker.specs.StatementPoints.{ArePoints, NeverOverflowsIn};
 ghost use Rattle.sanlp.specs.Access.{read_count};
 ghost use Rattle.sanlp.specs.Points.{points_of};
 ghost use Rattle.sanlp.specs.Size.{SizeIsOk};
@@ -14,15 +14,12 @@ use crate::ranges::has_text;
 use affine_core::Vector;
 use last_writer::{in_difference_class, source_of};
 use plain_data::{Boxed, Items};
-use sanlp::{Nest, Points};
+use sanlp::{LOOP_VALUE_LIMIT, Nest, Points};
 use source_tree::{Origin, Tree};
 use std::alloc::{AllocError, Global};
 use stride_rows::differences_are_strides;
 use tree_bounds::stays_within;
 use tree_eval::Follower;
-
-/// The greatest absolute value of a loop's variable.
-const LOOP_VALUE_LIMIT: u128 = 4_611_686_018_427_387_904;
 
 // Whether the tree overflows at none of these points.
 fn overflows_nowhere(tree: &Tree, vectors: &[Vector]) -> bool
@@ -57,7 +54,7 @@ fn overflows_nowhere_of(points: &Points, statement: u32, tree: &Tree) -> bool
 fn make_points(alloc: Global, nest: &Nest, points: &mut Option<Points>) -> Result<(), AllocError>
     requires size { SizeIsOk nest.now }
     requires points { IfSome points.old (ArePoints nest.now) }
-    ensures { OnOk result (IsMade (ArePoints nest.now) points.new) }
+    ensures { OnOk result (IsSomeAnd points.new (ArePoints nest.now)) }
 {
     if points.is_none() {
         *points = Some(loop_walk::points(alloc, nest)?);
@@ -81,7 +78,7 @@ fn overflows_at_no_point(
         → IsTrue (is_ready (length at) tree.now (length at)) }
     ensures points { OnOk result (IfSome points.new (ArePoints nest.now)) }
     ensures fits { IfOk result
-        (λ fits. IsTrue fits → NeverOverflowsAt nest.now statement tree.now) }
+        (λ fits. IsTrue fits → NeverOverflowsIn nest.now statement tree.now) }
 {
     make_points(alloc, nest, points)?;
     let Some(made) = points else { unreachable!() };
@@ -104,7 +101,7 @@ fn may_stand(
     requires checked { IsChecked nest.now statement read tree.now }
     ensures points { OnOk result (IfSome points.new (ArePoints nest.now)) }
     ensures fits { IfOk result
-        (λ stands. IsTrue stands → NeverOverflowsAt nest.now statement tree.now) }
+        (λ stands. IsTrue stands → NeverOverflowsIn nest.now statement tree.now) }
     ensures text { IfOk result (λ stands. IsTrue stands → TreeIsInRange tree.now) }
 {
     if !has_text(tree) {

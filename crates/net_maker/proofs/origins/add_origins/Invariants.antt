@@ -1,5 +1,5 @@
 use Rattle.std.specs.Prelude.{IfSome}
-use Rattle.net_maker.specs.MadePoints.{ArePoints}
+use Rattle.net_maker.specs.StatementPoints.{ArePoints}
 use Rattle.net_maker.specs.Origins.{HasOrigins}
 use Rattle.source_tree.specs.Sources.{read_number}
 use Rattle.net_maker.proofs.origins.add_origins.Given as goal

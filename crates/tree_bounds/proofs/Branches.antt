@@ -63,7 +63,7 @@ wider_within limit bound wider at v d is within near =
     (omega (arith, quotient_size v (unsigned_abs d), near, most, is)) (All-nil (λ (v : ℤ). unsigned_abs v ≤ wider)))
 
 pub divides_never : (limit bound wider : ℕ) (p : Tree) (form : Form) (d : ℤ) (a b : Tree) → p ≡ Divides form d a b
-    → IsValueBound form limit bound → wider ≡ max limit bound → NeverOverflows wider a → NeverOverflows wider b
+    → IsValueBound limit form bound → wider ≡ max limit bound → NeverOverflows wider a → NeverOverflows wider b
     → NeverOverflows limit p
 divides_never limit bound wider p form d a b e known is above below at within fits none =
     let v = known at within in
@@ -125,7 +125,7 @@ one_form limit form rest place first known others =
     subst (All (HasValues limit)) (sym first) (All-cons (HasValues limit) form rest known others)
 
 -- a bound tells that there are values
-pub has_values : (limit : ℕ) (form : Form) (bound : Option ℕ) → IfSome bound (IsValueBound form limit)
+pub has_values : (limit : ℕ) (form : Form) (bound : Option ℕ) → IfSome bound (IsValueBound limit form)
     → is_some bound ≡ true → HasValues limit form
 has_values limit form None known some = cc
 has_values limit form (Some bound) known some = λ at within. ((known at within).0, (known at within).1)

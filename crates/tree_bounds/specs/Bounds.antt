@@ -1,7 +1,7 @@
 -- How far from 0 the values of forms are, and what that says of a tree.
-use Rattle.std.specs.Prelude.{◌≡◌, ◌≤◌, ℕ, ℤ, List, None, Some, All, IsTrue, unsigned_abs}
+use Rattle.std.specs.Prelude.{◌≡◌, ◌≤◌, ◌+◌, ◌*◌, ℕ, ℤ, List, None, Some, All, IsTrue, sum_by, unsigned_abs}
 use Rattle.affine_core.specs.declared.form.Form.{Form}
-use Rattle.affine_core.specs.Within.{combined_in_128_bits, value_in_128_bits}
+use Rattle.affine_core.specs.Within.{value_in_128_bits}
 use Rattle.sanlp.specs.declared.nest.Point.{Point}
 use Rattle.source_tree.specs.declared.tree.Found.TheVariants.{At}
 use Rattle.source_tree.specs.declared.tree.Tree.{Tree}
@@ -12,16 +12,18 @@ use Rattle.source_tree.specs.Walk.{fits_64_bits, outcome_of}
 abbrev pub AreWithin : ℕ → List ℤ → Type 0
 AreWithin limit at = All (λ v. unsigned_abs v ≤ limit) at
 
--- A sum no further than `bound` from 0 stays within 128 bits when products of the coefficients and of values within the
--- limit are added, and then is no further from 0 than `greatest`.
-pub record IsSumBound (bound : ℕ) (coefs : List ℤ) (limit greatest : ℕ) : Type 0 where
-  pub above : bound ≤ greatest
-  pub reached : (sum : ℤ) (at : List ℤ) → unsigned_abs sum ≤ bound → AreWithin limit at
-      → (v : ℤ) × (combined_in_128_bits sum coefs at ≡ Some v) × (unsigned_abs v ≤ greatest)
+-- How far from 0 a sum comes at most that is no further than `size` from it, when the products of these coefficients and
+-- of values within the limit are added.
+abbrev pub greatest_sum : ℕ → ℕ → List ℤ → ℕ
+greatest_sum limit size coefs = size + limit * sum_by unsigned_abs coefs
+
+-- how far from 0 the form's value is at most, at values within the limit
+abbrev pub greatest_size : ℕ → Form → ℕ
+greatest_size limit form = greatest_sum limit (unsigned_abs form.constant) form.coefs
 
 -- At values within the limit the form's value stays within 128 bits, and is no further from 0 than the bound.
-abbrev pub IsValueBound : Form → ℕ → ℕ → Type 0
-IsValueBound form limit bound =
+abbrev pub IsValueBound : ℕ → Form → ℕ → Type 0
+IsValueBound limit form bound =
     (at : List ℤ) → AreWithin limit at
     → (v : ℤ) × (value_in_128_bits form at ≡ Some v) × (unsigned_abs v ≤ bound)
 

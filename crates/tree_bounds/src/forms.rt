@@ -1,31 +1,34 @@
-ghost use Rattle.std.specs.Prelude.{IfSome, All, IsTrue};
-ghost use Rattle.tree_bounds.specs.Bounds.{HasValues, IsSumBound, IsValueBound};
+ghost use Rattle.std.specs.Prelude.{◌<◌, ◌^◌, All, IfSome, IsTrue, SomeIff};
+ghost use Rattle.tree_bounds.specs.Bounds.{greatest_size, greatest_sum, HasValues, IsValueBound};
 
 use affine_core::KeptForm;
 
 /// The least absolute value that may leave 128 bits.
-const LIMIT: u128 = 170_141_183_460_469_231_731_687_303_715_884_105_728;
+const LEAST_OUTSIDE: u128 = 170_141_183_460_469_231_731_687_303_715_884_105_728;
 
-// How far from 0 a sum comes at most that is no further than `bound` from it, when the products of these coefficients and of
+// How far from 0 a sum comes at most that is no further than `size` from it, when the products of these coefficients and of
 // values no further than `limit` from 0 are added one by one; or `None`, where that may leave 128 bits.
-fn sum_bound(bound: u128, coefs: &[i128], limit: u128) -> Option<u128>
-    ensures { IfSome result (IsSumBound bound coefs.now limit) }
+fn sum_bound(size: u128, coefs: &[i128], limit: u128) -> Option<u128>
+    ensures { SomeIff result (greatest_sum limit size coefs.now < 2 ^ 127)
+        (greatest_sum limit size coefs.now) }
 {
-    let Some((coef, coefs)) = coefs.split_first() else {
-        return Some(bound);
-    };
-    let product = coef.unsigned_abs().checked_mul(limit)?;
-    let next = bound.checked_add(product)?;
-    if next >= LIMIT {
+    if size >= LEAST_OUTSIDE {
         return None;
     }
+    let Some((coef, coefs)) = coefs.split_first() else {
+        return Some(size);
+    };
+    let product = coef.unsigned_abs().checked_mul(limit)?;
+    let next = size.checked_add(product)?;
     sum_bound(next, coefs, limit)
 }
 
 /// How far from 0 the form's value is at most, where its variables' values are no further than `limit` from 0; or `None`, where
 /// it may leave 128 bits.
 pub(crate) fn value_bound(form: &KeptForm, limit: u128) -> Option<u128>
-    ensures { IfSome result (IsValueBound form.now limit) }
+    ensures size { SomeIff result (greatest_size limit form.now < 2 ^ 127)
+        (greatest_size limit form.now) }
+    ensures values { IfSome result (IsValueBound limit form.now) }
 {
     let form = form.get();
     sum_bound(form.constant.unsigned_abs(), form.coefs.as_slice(), limit)

@@ -10,7 +10,7 @@ returns-then-stays_within t c = λ told.
 pub returns-then-stays_within-2 : goal.returns-then-stays_within-2
 returns-then-stays_within-2 t c = λ told.
     divides_never c.args.limit c.in-Some.bound c.max-wider.result c.args.tree.now c.in-Divides.form
-    c.in-Divides.field-1 c.in-Divides.yes c.in-Divides.no c.in-Divides.is c.in-Some.ensures c.max-wider.ensures
+    c.in-Divides.field-1 c.in-Divides.yes c.in-Divides.no c.in-Divides.is c.in-Some.ensures.values c.max-wider.ensures
     (rw c.get-in-Divides.ensures at c.stays_within-in-Divides.ensures c.if-stays_within-2.true)
     (rw c.get-then-stays_within-2.ensures at c.stays_within-then-stays_within-2.ensures told)
 

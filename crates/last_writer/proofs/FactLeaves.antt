@@ -9,7 +9,7 @@ use Rattle.std.proofs.lemmas.List.{append-nil, length-map, map-append}
 use Rattle.std.proofs.lemmas.Simd.{map-map}
 use Rattle.affine_core.specs.declared.form.Form.{Form}
 use Rattle.int_polyhedra.specs.declared.system.Proof.{Proof}
-use Rattle.last_writer.specs.Leaves.{after_orders, cell_count, context_of, fact_context, own_context, own_order, HasFacts}
+use Rattle.last_writer.specs.Leaves.{after_orders, cell_count, context_of, fact_context, own_context, own_order_system, HasFacts}
 use Rattle.last_writer.specs.Leaves.{IsAnswered, IsAtLeaf, IsJoinedBelow, IsLeafBelow, IsWithoutFacts}
 use Rattle.last_writer.specs.declared.leaves.Answered.{Answered}
 use Rattle.last_writer.specs.declared.writers.Writer.{Writer}
@@ -141,7 +141,8 @@ order_away w here k rest order proof own h at long refuted =
 pub write_away : (w : Answered) (here k : ℕ) (rest order : List RowExpr) (x : Writer) (proof own : Proof)
     → length (write_of x.strides).access.subscripts ≡ length (read_of x.strides).access.subscripts
     → IsWithoutFacts w here (cell_count (write_of x.strides) + k) proof own → IsAtLeaf w here rest → length order ≡ k
-    → IsRefuted (own_system x.strides (fact_context w rest) order) proof → IsRefuted (own_order w rest x order) own
+    → IsRefuted (own_system x.strides (fact_context w rest) order) proof
+    → IsRefuted (own_order_system w rest x order) own
 write_away w here k rest order x proof own even h at long refuted =
     let u : Occurrence = write_of x.strides in
     let r : Occurrence = read_of x.strides in

@@ -14,7 +14,7 @@ use Rattle.affine_core.specs.declared.form.Form.{Form}
 use Rattle.candidate_order.specs.Candidates.{levels_before}
 use Rattle.candidate_join.proofs.LevelCounts.{few_before}
 use Rattle.last_writer.specs.Leaves.{after_counts, all_orders, answer_at, context_of, counts_behind, fact_context, is_told, order_counts}
-use Rattle.last_writer.specs.Leaves.{own_context, own_order, own_systems, point_vars, told_order, told_systems, AddsOrders}
+use Rattle.last_writer.specs.Leaves.{own_context, own_order_system, own_systems, write_vars, told_order_systems, told_systems, AddsOrderProofs}
 use Rattle.last_writer.specs.Leaves.{AddsProofs, HaveOrderRows, IsAnswered, IsAtLeaf, IsBelow, IsFurther, IsRefusal}
 use Rattle.last_writer.specs.Leaves.{IsRefusalAmong, IsRefusalBy, IsRefusedContext}
 use Rattle.last_writer.specs.Writers.{is_never, no_place, IsPlaceBy, IsPlaceOf, IsTestAt, IsWriterOf}
@@ -328,13 +328,13 @@ module _ (w : Answered) (rest : List RowExpr) (behind : Option Reference) (furth
   told_are false = sym (no_order (λ (rows : List RowExpr). []) (λ rows. refl) orders)
 
   -- what is added for all orders is added for the writer
-  pub writer_added : (told left old new : List Proof) → AddsOrders w rest x orders told left old new
+  pub writer_added : (told left old new : List Proof) → AddsOrderProofs w rest x orders told left old new
       → AddsProofs (told_systems w.answers.now c further x) (own_systems (own_context w rest) further x) told left old new
   writer_added told left old new added =
       subst (λ from. AddsProofs from (own_systems (own_context w rest) further x) told left old new)
       (sym (told_are (is_told w.answers.now x)))
-      (subst (λ to. AddsProofs (flat_map (told_order w rest x) orders) to told left old new)
-      (level_by_level (own_order w rest x) (further u) (levels_of x c)) added)
+      (subst (λ to. AddsProofs (flat_map (told_order_systems w rest x) orders) to told left old new)
+      (level_by_level (own_order_system w rest x) (further u) (levels_of x c)) added)
 
 -- how many order rows there are
 pub few_behind : (behind : Option Reference) (u : Occurrence)
@@ -344,10 +344,11 @@ few_behind (Some of) u few = few_counts (occurrence_of of) u few
 
 pub writer_levels : (w : Answered) (here : ℕ) (rest : List RowExpr) (x : Writer) → IsAtLeaf w here rest
     → IsWriterOf w.nest.now (occurrence_of w.read) w.tests.now x
-    → HaveOrderRows (point_vars w x) (order_counts (write_of x.strides) (occurrence_of w.read))
+    → HaveOrderRows (write_vars w x) (order_counts (write_of x.strides) (occurrence_of w.read))
     (levels_of x (fact_context w rest))
 writer_levels w here rest x at of =
-    subst (λ r. HaveOrderRows (point_vars w x) (order_counts (write_of x.strides) r) (levels_of x (fact_context w rest)))
+    subst (λ r. HaveOrderRows (write_vars w x) (order_counts (write_of x.strides) r)
+    (levels_of x (fact_context w rest)))
     of.read
     (level_rows x.strides (fact_context w rest)
     (reader_inside w (here + length w.cuts.now) (fact_context w rest) x at of))

@@ -10,8 +10,8 @@ use Rattle.std.proofs.lemmas.Grind.{flat_map-append}
 use Rattle.std.proofs.lemmas.List.{map-append}
 use Rattle.std.proofs.lemmas.List.Elements.{All-append}
 use Rattle.int_polyhedra.specs.declared.system.Proof.{Proof}
-use Rattle.last_writer.specs.Leaves.{all_orders, fact_context, is_told, own_context, own_order, point_vars, told_order, AddsOrders}
-use Rattle.last_writer.specs.Leaves.{AddsProofs, AreOrderRows, HaveOrderRows, HaveRows}
+use Rattle.last_writer.specs.Leaves.{all_orders, fact_context, is_told, own_context, own_order_system, write_vars, told_order_systems, AddsOrderProofs}
+use Rattle.last_writer.specs.Leaves.{AddsProofs, AreOrderRows, HaveOrderRows, HaveRowCounts}
 use Rattle.last_writer.specs.declared.leaves.Answered.{Answered}
 use Rattle.last_writer.specs.declared.writers.Writer.{Writer}
 use Rattle.last_writer.proofs.ProofSteps.{adds_both, adds_nothing, adds_one, adds_own}
@@ -52,90 +52,90 @@ module _ (w : Answered) (rest : List RowExpr) (x : Writer) where
   -- what is added for one order, as the tests say
   abbrev AddsBy : Bool → List RowExpr → List Proof → List Proof → List Proof → List Proof → Type 0
   AddsBy b rows told left old new =
-      AddsProofs (cond b (told_one rows ∷ []) [] ++ []) (own_order w rest x rows ∷ []) told left old new
+      AddsProofs (cond b (told_one rows ∷ []) [] ++ []) (own_order_system w rest x rows ∷ []) told left old new
 
   pub adds_told : (rows : List RowExpr) (proof own : Proof) (told left old new : List Proof)
       → is_told w.answers.now x ≡ true → told ≡ proof ∷ left → new ≡ old ++ own ∷ []
-      → (IsRefuted (told_one rows) proof → IsRefuted (own_order w rest x rows) own)
-      → AddsOrders w rest x (rows ∷ []) told left old new
+      → (IsRefuted (told_one rows) proof → IsRefuted (own_order_system w rest x rows) own)
+      → AddsOrderProofs w rest x (rows ∷ []) told left old new
   adds_told rows proof own told left old new says first last one =
       subst (λ (b : Bool). AddsBy b rows told left old new) (sym says)
-      (adds_one (told_one rows) (own_order w rest x rows) proof own told left old new first last one)
+      (adds_one (told_one rows) (own_order_system w rest x rows) proof own told left old new first last one)
 
   pub adds_absent : (rows : List RowExpr) (told old : List Proof) → is_told w.answers.now x ≡ true → told ≡ []
-      → AddsOrders w rest x (rows ∷ []) told told old old
+      → AddsOrderProofs w rest x (rows ∷ []) told told old old
   adds_absent rows told old says none =
       subst (λ (b : Bool). AddsBy b rows told told old old) (sym says)
-      (none_left told_one (own_order w rest x) (rows ∷ []) told old none)
+      (none_left told_one (own_order_system w rest x) (rows ∷ []) told old none)
 
   pub adds_refused : (rows : List RowExpr) (own : Proof) (told old new : List Proof) → is_told w.answers.now x ≡ false
-      → new ≡ old ++ own ∷ [] → IsRefuted (own_order w rest x rows) own
-      → AddsOrders w rest x (rows ∷ []) told told old new
+      → new ≡ old ++ own ∷ [] → IsRefuted (own_order_system w rest x rows) own
+      → AddsOrderProofs w rest x (rows ∷ []) told told old new
   adds_refused rows own told old new denies last one =
       subst (λ (b : Bool). AddsBy b rows told told old new) (sym denies)
-      (adds_own (own_order w rest x rows ∷ []) told old new
-      (λ before h. subst (AreRefuted (before ++ own_order w rest x rows ∷ [])) (sym last)
-      (AreRefuted-append before (own_order w rest x rows ∷ []) old (own ∷ []) h (one, tt))))
+      (adds_own (own_order_system w rest x rows ∷ []) told old new
+      (λ before h. subst (AreRefuted (before ++ own_order_system w rest x rows ∷ [])) (sym last)
+      (AreRefuted-append before (own_order_system w rest x rows ∷ []) old (own ∷ []) h (one, tt))))
 
   adds_append : (first second : List (List RowExpr)) (told middle left old between new : List Proof)
-      → AddsOrders w rest x first told middle old between → AddsOrders w rest x second middle left between new
-      → AddsOrders w rest x (first ++ second) told left old new
+      → AddsOrderProofs w rest x first told middle old between → AddsOrderProofs w rest x second middle left between new
+      → AddsOrderProofs w rest x (first ++ second) told left old new
   adds_append first second told middle left old between new h k =
-      let from : List (List RowExpr) → List RowSystem = flat_map (told_order w rest x) in
-      let to : List (List RowExpr) → List RowSystem = map (own_order w rest x) in
+      let from : List (List RowExpr) → List RowSystem = flat_map (told_order_systems w rest x) in
+      let to : List (List RowExpr) → List RowSystem = map (own_order_system w rest x) in
       subst (λ systems. AddsProofs systems (to (first ++ second)) told left old new)
-      (sym (flat_map-append (told_order w rest x) first second))
+      (sym (flat_map-append (told_order_systems w rest x) first second))
       (subst (λ systems. AddsProofs (from first ++ from second) systems told left old new)
-      (sym (map-append (own_order w rest x) first second))
+      (sym (map-append (own_order_system w rest x) first second))
       (adds_both (from first) (from second) (to first) (to second) told middle left old between new h k))
 
   pub orders_none : (level : List RowExpr) (counts : List ℕ) (orders : List (List RowExpr)) (told old : List Proof)
-      → counts ≡ [] → HaveOrderRows (point_vars w x) counts orders
-      → AddsOrders w rest x (map (λ rows. level ++ rows) orders) told told old old
+      → counts ≡ [] → HaveOrderRows (write_vars w x) counts orders
+      → AddsOrderProofs w rest x (map (λ rows. level ++ rows) orders) told told old old
   orders_none level counts orders told old e h =
-      go orders (subst (λ ns. HaveOrderRows (point_vars w x) ns orders) e h) where
-        go : (orders : List (List RowExpr)) → HaveOrderRows (point_vars w x) [] orders
-            → AddsOrders w rest x (map (λ rows. level ++ rows) orders) told told old old
+      go orders (subst (λ ns. HaveOrderRows (write_vars w x) ns orders) e h) where
+        go : (orders : List (List RowExpr)) → HaveOrderRows (write_vars w x) [] orders
+            → AddsOrderProofs w rest x (map (λ rows. level ++ rows) orders) told told old old
         go [] h = adds_nothing told old
         go (rows ∷ orders) h = absurd h
 
   pub orders_step : (level : List RowExpr) (counts : List ℕ) (n : ℕ) (ns : List ℕ) (orders : List (List RowExpr))
       (told middle left old between new : List Proof) → counts ≡ n ∷ ns
-      → HaveOrderRows (point_vars w x) counts orders
-      → ((rows : List RowExpr) → AreOrderRows (point_vars w x) n rows
-      → AddsOrders w rest x ((level ++ rows) ∷ []) told middle old between)
-      → ((others : List (List RowExpr)) → HaveOrderRows (point_vars w x) ns others
-      → AddsOrders w rest x (map (λ rows. level ++ rows) others) middle left between new)
-      → AddsOrders w rest x (map (λ rows. level ++ rows) orders) told left old new
+      → HaveOrderRows (write_vars w x) counts orders
+      → ((rows : List RowExpr) → AreOrderRows (write_vars w x) n rows
+      → AddsOrderProofs w rest x ((level ++ rows) ∷ []) told middle old between)
+      → ((others : List (List RowExpr)) → HaveOrderRows (write_vars w x) ns others
+      → AddsOrderProofs w rest x (map (λ rows. level ++ rows) others) middle left between new)
+      → AddsOrderProofs w rest x (map (λ rows. level ++ rows) orders) told left old new
   orders_step level counts n ns orders told middle left old between new e h one others =
-      go orders (subst (λ ns. HaveOrderRows (point_vars w x) ns orders) e h) where
-        go : (orders : List (List RowExpr)) → HaveOrderRows (point_vars w x) (n ∷ ns) orders
-            → AddsOrders w rest x (map (λ rows. level ++ rows) orders) told left old new
+      go orders (subst (λ ns. HaveOrderRows (write_vars w x) ns orders) e h) where
+        go : (orders : List (List RowExpr)) → HaveOrderRows (write_vars w x) (n ∷ ns) orders
+            → AddsOrderProofs w rest x (map (λ rows. level ++ rows) orders) told left old new
         go [] h = absurd h
         go (rows ∷ orders) h =
             adds_append ((level ++ rows) ∷ []) (map (λ rows. level ++ rows) orders) told middle left old between new
             (one rows h.0) (others orders h.1)
 
   pub levels_none : (behind : List (List RowExpr)) (counts : List ℕ) (at : List (List RowExpr)) (told old : List Proof)
-      → counts ≡ [] → HaveOrderRows (point_vars w x) counts at
-      → AddsOrders w rest x (all_orders behind at) told told old old
-  levels_none behind counts at told old e h = go at (subst (λ ns. HaveOrderRows (point_vars w x) ns at) e h) where
-    go : (at : List (List RowExpr)) → HaveOrderRows (point_vars w x) [] at
-        → AddsOrders w rest x (all_orders behind at) told told old old
+      → counts ≡ [] → HaveOrderRows (write_vars w x) counts at
+      → AddsOrderProofs w rest x (all_orders behind at) told told old old
+  levels_none behind counts at told old e h = go at (subst (λ ns. HaveOrderRows (write_vars w x) ns at) e h) where
+    go : (at : List (List RowExpr)) → HaveOrderRows (write_vars w x) [] at
+        → AddsOrderProofs w rest x (all_orders behind at) told told old old
     go [] h = adds_nothing told old
     go (level ∷ at) h = absurd h
 
   pub levels_step : (behind : List (List RowExpr)) (counts : List ℕ) (n : ℕ) (ns : List ℕ) (at : List (List RowExpr))
-      (told middle left old between new : List Proof) → counts ≡ n ∷ ns → HaveOrderRows (point_vars w x) counts at
-      → ((level : List RowExpr) → AreOrderRows (point_vars w x) n level
-      → AddsOrders w rest x (map (λ rows. level ++ rows) behind) told middle old between)
-      → ((others : List (List RowExpr)) → HaveOrderRows (point_vars w x) ns others
-      → AddsOrders w rest x (all_orders behind others) middle left between new)
-      → AddsOrders w rest x (all_orders behind at) told left old new
+      (told middle left old between new : List Proof) → counts ≡ n ∷ ns → HaveOrderRows (write_vars w x) counts at
+      → ((level : List RowExpr) → AreOrderRows (write_vars w x) n level
+      → AddsOrderProofs w rest x (map (λ rows. level ++ rows) behind) told middle old between)
+      → ((others : List (List RowExpr)) → HaveOrderRows (write_vars w x) ns others
+      → AddsOrderProofs w rest x (all_orders behind others) middle left between new)
+      → AddsOrderProofs w rest x (all_orders behind at) told left old new
   levels_step behind counts n ns at told middle left old between new e h one others =
-      go at (subst (λ ns. HaveOrderRows (point_vars w x) ns at) e h) where
-        go : (at : List (List RowExpr)) → HaveOrderRows (point_vars w x) (n ∷ ns) at
-            → AddsOrders w rest x (all_orders behind at) told left old new
+      go at (subst (λ ns. HaveOrderRows (write_vars w x) ns at) e h) where
+        go : (at : List (List RowExpr)) → HaveOrderRows (write_vars w x) (n ∷ ns) at
+            → AddsOrderProofs w rest x (all_orders behind at) told left old new
         go [] h = absurd h
         go (level ∷ at) h =
             adds_append (map (λ rows. level ++ rows) behind) (all_orders behind at) told middle left old between new
@@ -149,22 +149,23 @@ module _ (w : Answered) (rest : List RowExpr) where
       AddsProofs (map (with_rows (fact_context w rest)) orders) (map (with_rows (own_context w rest)) orders) told left old new
 
   pub after_none : (counts : List ℕ) (orders : List (List RowExpr)) (told old : List Proof) → counts ≡ []
-      → HaveRows counts orders → AddsAfter orders told told old old
-  after_none counts orders told old e h = go orders (subst (λ ns. HaveRows ns orders) e h) where
-    go : (orders : List (List RowExpr)) → HaveRows [] orders → AddsAfter orders told told old old
+      → HaveRowCounts counts orders → AddsAfter orders told told old old
+  after_none counts orders told old e h = go orders (subst (λ ns. HaveRowCounts ns orders) e h) where
+    go : (orders : List (List RowExpr)) → HaveRowCounts [] orders → AddsAfter orders told told old old
     go [] h = adds_nothing told old
     go (order ∷ orders) h = absurd h
 
   pub after_step : (counts : List ℕ) (n : ℕ) (ns : List ℕ) (orders : List (List RowExpr)) (proof own : Proof)
-      (told middle left old between new : List Proof) → counts ≡ n ∷ ns → HaveRows counts orders → told ≡ proof ∷ middle
+      (told middle left old between new : List Proof) → counts ≡ n ∷ ns → HaveRowCounts counts orders
+      → told ≡ proof ∷ middle
       → between ≡ old ++ own ∷ []
       → ((order : List RowExpr) → length order ≡ n → IsRefuted (with_rows (fact_context w rest) order) proof
       → IsRefuted (with_rows (own_context w rest) order) own)
-      → ((others : List (List RowExpr)) → HaveRows ns others → AddsAfter others middle left between new)
+      → ((others : List (List RowExpr)) → HaveRowCounts ns others → AddsAfter others middle left between new)
       → AddsAfter orders told left old new
   after_step counts n ns orders proof own told middle left old between new e h first last one others =
-      go orders (subst (λ ns. HaveRows ns orders) e h) where
-        go : (orders : List (List RowExpr)) → HaveRows (n ∷ ns) orders → AddsAfter orders told left old new
+      go orders (subst (λ ns. HaveRowCounts ns orders) e h) where
+        go : (orders : List (List RowExpr)) → HaveRowCounts (n ∷ ns) orders → AddsAfter orders told left old new
         go [] h = absurd h
         go (order ∷ orders) h =
             adds_both (with_rows (fact_context w rest) order ∷ []) (map (with_rows (fact_context w rest)) orders)

@@ -17,9 +17,9 @@ use Rattle.difference_graphs.specs.Joint.{orders_behind, write_systems_of}
 use Rattle.difference_graphs.specs.Joint.{ReadAndWrite}
 use Rattle.difference_graphs.specs.Level.{common_of}
 use Rattle.int_polyhedra.specs.declared.system.Proof.{Proof}
-use Rattle.last_writer.specs.Leaves.{after_counts, after_orders, cell_count, fact_context, is_told, order_counts, own_context}
+use Rattle.last_writer.specs.Leaves.{after_counts, after_orders, domain_cell_rows, fact_context, is_told, order_counts, own_context}
 use Rattle.last_writer.specs.Leaves.{own_place_systems, own_systems, pairs_of, told_pair, told_pairs, told_place_systems}
-use Rattle.last_writer.specs.Leaves.{told_systems, vars_of, AddsProofs, HaveRows, IsAnswered, IsAtLeaf, IsJoinedPoint}
+use Rattle.last_writer.specs.Leaves.{told_systems, vars_of, AddsProofs, HaveRowCounts, IsAnswered, IsAtLeaf, IsJoinedPoint}
 use Rattle.last_writer.specs.Leaves.{IsOwnPoint}
 use Rattle.last_writer.specs.Writers.{IsWriterOf}
 use Rattle.last_writer.specs.declared.leaves.Answered.{Answered}
@@ -195,7 +195,7 @@ module _ (w : Answered) (here : ℕ) (rest : List RowExpr) (number : ℕ) (place
       )
 
   -- the cuts
-  module _ (cells : ℕ) (cells_are : cells ≡ cell_count u) where
+  module _ (cells : ℕ) (cells_are : cells ≡ domain_cell_rows u) where
     pub front_is : take cells told ≡ first.front
     front_is = ap (take cells) first.is ∙ take_at first.front first.back cells (place_count ∙ sym cells_are)
 
@@ -251,11 +251,11 @@ module _ (w : Answered) (here : ℕ) (rest : List RowExpr) (number : ℕ) (place
             ap (λ n. n ∷ []) long
         go false e = refl
 
-  pub orders_long : (counts : List ℕ) → counts ≡ after_counts (occurrence_of w.read) u → HaveRows counts orders
+  pub orders_long : (counts : List ℕ) → counts ≡ after_counts (occurrence_of w.read) u → HaveRowCounts counts orders
   orders_long counts e =
-      subst (λ ns. HaveRows ns orders)
+      subst (λ ns. HaveRowCounts ns orders)
       (lengths_are ∙ ap (λ (r : Occurrence). after_counts r u) of.read ∙ sym e) (go orders) where
-        go : (orders : List (List RowExpr)) → HaveRows (map length orders) orders
+        go : (orders : List (List RowExpr)) → HaveRowCounts (map length orders) orders
         go [] = tt
         go (rows ∷ orders) = (refl, go orders)
 

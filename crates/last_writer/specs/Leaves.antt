@@ -169,33 +169,33 @@ told_systems answers c further w =
     then write_systems (told_pair c.vars w).read every c further (told_pair c.vars w).write else []
 
 -- how many rows a domain and a cell have
-abbrev pub cell_count : Occurrence → ℕ
-cell_count u = length u.statement.rows + 2 * length u.access.subscripts
+abbrev pub domain_cell_rows : Occurrence → ℕ
+domain_cell_rows u = length u.statement.rows + 2 * length u.access.subscripts
 
 -- how many variables the systems of a writer's write have
-abbrev pub point_vars : Answered → Writer → ℕ
-point_vars w x = (context_of w).vars + depth_of_write x.strides
+abbrev pub write_vars : Answered → Writer → ℕ
+write_vars w x = (context_of w).vars + depth_of_write x.strides
 
 -- the system of a writer's write with these order rows: over quotients, where its tests all say yes, with the facts
-abbrev pub told_order : Answered → List RowExpr → Writer → List RowExpr → List RowSystem
-told_order w rest x order =
+abbrev pub told_order_systems : Answered → List RowExpr → Writer → List RowExpr → List RowSystem
+told_order_systems w rest x order =
     if is_told w.answers.now x
     then told_system x.strides x.places (fact_context w rest) order ∷ [] else []
 
 -- and as it stands in the nest, without the facts
-abbrev pub own_order : Answered → List RowExpr → Writer → List RowExpr → RowSystem
-own_order w rest x order = own_system x.strides (own_context w rest) order
+abbrev pub own_order_system : Answered → List RowExpr → Writer → List RowExpr → RowSystem
+own_order_system w rest x order = own_system x.strides (own_context w rest) order
 
 -- these orders behind each level
 abbrev pub all_orders : List (List RowExpr) → List (List RowExpr) → List (List RowExpr)
 all_orders behind levels = flat_map (λ level. map (λ rows. level ++ rows) behind) levels
 
 -- proofs were added for each of these orders of a writer's write
-abbrev pub AddsOrders : Answered → List RowExpr → Writer → List (List RowExpr) → List Proof
+abbrev pub AddsOrderProofs : Answered → List RowExpr → Writer → List (List RowExpr) → List Proof
     → List Proof → List Proof → List Proof → Type 0
-AddsOrders w rest x orders told left old new =
-    AddsProofs (flat_map (told_order w rest x) orders) (map (own_order w rest x) orders)
-    told left old new
+AddsOrderProofs w rest x orders told left old new =
+    AddsProofs (flat_map (told_order_systems w rest x) orders)
+    (map (own_order_system w rest x) orders) told left old new
 
 -- that a place is in the domain and writes the read's cell: over quotients with the facts, and as it stands in the
 -- nest without them
@@ -215,8 +215,8 @@ after_orders r u place =
     ++ (if u.number == r.number then same_rows (reader_place r) place ∷ [] else [])
 
 -- such orders have so many rows
-abbrev pub HaveRows : List ℕ → List (List RowExpr) → Type 0
-HaveRows counts orders = AllZip (λ count order. length order ≡ count) counts orders
+abbrev pub HaveRowCounts : List ℕ → List (List RowExpr) → Type 0
+HaveRowCounts counts orders = AllZip (λ count order. length order ≡ count) counts orders
 
 -- how many rows each of them has
 abbrev pub after_counts : Occurrence → Occurrence → List ℕ

@@ -5,7 +5,7 @@ ghost use Rattle.difference_graphs.specs.Heights.{height_of};
 ghost use Rattle.difference_graphs.specs.Joint.{no_orders, write_systems_of, IsSum};
 ghost use Rattle.int_polyhedra.specs.declared.system.Proof.{Proof as ProofOf};
 ghost use Rattle.int_polyhedra.specs.declared.system.Proof.TheVariants.{Sum};
-ghost use Rattle.last_writer.specs.Leaves.{after_counts as counts_after, all_orders, answer_at as answer_of, cell_count as cells_of, counts_behind as behind_counts, fact_context, is_told, level_count_of, order_counts, own_context, own_place_systems, own_systems, pairs_of, point_vars, told_place_systems, told_systems, AddsOrders, AddsProofs, AreOrderRows, Converts, HasWriter, HaveOrderRows, HaveRows, IsAnswered, IsAtLeaf, IsFurther, IsJoinedBelow, IsJoinedPoint, IsLeafBelow, IsOwnPoint, IsRefusal, IsRefusalAmong, IsRefusedContext, IsWithoutFacts};
+ghost use Rattle.last_writer.specs.Leaves.{after_counts as counts_after, all_orders, answer_at as answer_of, domain_cell_rows, counts_behind as behind_counts, fact_context, is_told, level_count_of, order_counts, own_context, own_place_systems, own_systems, pairs_of, write_vars, told_place_systems, told_systems, AddsOrderProofs, AddsProofs, AreOrderRows, Converts, HasWriter, HaveOrderRows, HaveRowCounts, IsAnswered, IsAtLeaf, IsFurther, IsJoinedBelow, IsJoinedPoint, IsLeafBelow, IsOwnPoint, IsRefusal, IsRefusalAmong, IsRefusedContext, IsWithoutFacts};
 ghost use Rattle.last_writer.specs.Converted.{turns_left, IsConverting};
 ghost use Rattle.last_writer.specs.Writers.{IsWriterOf};
 ghost use Rattle.source_tree.specs.Checked.{AreRefuted, IsRefuted};
@@ -225,7 +225,7 @@ fn push_own(
 fn cell_count(write: &Reference) -> u32
     requires rows { length write.now.statement.now.rows ≤ 32 }
     requires subscripts { length write.now.access.now.subscripts ≤ 6 }
-    ensures { result ≡ cells_of (occurrence_of write.now) }
+    ensures { result ≡ domain_cell_rows (occurrence_of write.now) }
 {
     let rows = write.statement.rows.len();
     let subscripts = write.access.subscripts.len();
@@ -248,8 +248,9 @@ fn push_order<'t>(
     requires order { order ≤ 64 }
     requires sums { All IsSum told.now }
     ensures proofs { IfOk result (λ left. (rest rows : List RowExpr) → IsAtLeaf w.now here rest
-        → AreOrderRows (point_vars w.now writer.now) order rows
-        → AddsOrders w.now rest writer.now (rows ∷ []) told.now left.now proofs.old proofs.new) }
+        → AreOrderRows (write_vars w.now writer.now) order rows
+        → AddsOrderProofs w.now rest writer.now (rows ∷ []) told.now left.now proofs.old
+        proofs.new) }
     ensures sums { IfOk result (λ left. All IsSum left.now) }
 {
     let s = &writer.strides;
@@ -291,9 +292,9 @@ fn push_orders<'t>(
     requires sums { All IsSum told.now }
     ensures proofs { IfOk result (λ left. (rest level : List RowExpr)
         (behind : List (List RowExpr)) → IsAtLeaf w.now here rest
-        → AreOrderRows (point_vars w.now writer.now) before level
-        → HaveOrderRows (point_vars w.now writer.now) orders.now behind
-        → AddsOrders w.now rest writer.now (map (λ rows. level ++ rows) behind)
+        → AreOrderRows (write_vars w.now writer.now) before level
+        → HaveOrderRows (write_vars w.now writer.now) orders.now behind
+        → AddsOrderProofs w.now rest writer.now (map (λ rows. level ++ rows) behind)
         told.now left.now proofs.old proofs.new) }
     ensures sums { IfOk result (λ left. All IsSum left.now) }
 {
@@ -321,9 +322,9 @@ fn push_levels<'t>(
     requires orders { All (λ order. order ≤ 32) orders.now }
     requires sums { All IsSum told.now }
     ensures proofs { IfOk result (λ left. (rest : List RowExpr) (at behind : List (List RowExpr))
-        → IsAtLeaf w.now here rest → HaveOrderRows (point_vars w.now writer.now) levels.now at
-        → HaveOrderRows (point_vars w.now writer.now) orders.now behind
-        → AddsOrders w.now rest writer.now (all_orders behind at)
+        → IsAtLeaf w.now here rest → HaveOrderRows (write_vars w.now writer.now) levels.now at
+        → HaveOrderRows (write_vars w.now writer.now) orders.now behind
+        → AddsOrderProofs w.now rest writer.now (all_orders behind at)
         told.now left.now proofs.old proofs.new) }
     ensures sums { IfOk result (λ left. All IsSum left.now) }
 {
@@ -417,7 +418,7 @@ fn push_sums<'t>(
     requires counts { All (λ count. count ≤ 32) counts.now }
     requires sums { All IsSum told.now }
     ensures proofs { IfOk result (λ left. (rest : List RowExpr) (orders : List (List RowExpr))
-        → IsAtLeaf w.now here rest → HaveRows counts.now orders
+        → IsAtLeaf w.now here rest → HaveRowCounts counts.now orders
         → AddsProofs (map (with_rows (fact_context w.now rest)) orders)
         (map (with_rows (own_context w.now rest)) orders)
         told.now left.now proofs.old proofs.new) }
@@ -492,7 +493,7 @@ fn place_proofs(
     requires leaf { IsLeafBelow w.now here }
     requires says { is_told w.now.answers.now writer.now ≡ true }
     requires sums { All IsSum told.now }
-    requires count { length told.now ≡ cells_of (write_of writer.now.strides) }
+    requires count { length told.now ≡ domain_cell_rows (write_of writer.now.strides) }
     ensures { IfOk result (λ proofs. (rest : List RowExpr) (place : List FormOf)
         → IsAtLeaf w.now here rest
         → IsPlaceIn (fact_context w.now rest) (depth_of_write writer.now.strides) place

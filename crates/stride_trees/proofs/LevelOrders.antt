@@ -19,7 +19,7 @@ use Rattle.stride_trees.specs.Contexts.{AreMadeSmall}
 use Rattle.stride_trees.specs.Strides.{depth_of_read, depth_of_write, read_of, write_of, IsStrided}
 use Rattle.stride_trees.specs.declared.strides.Strides.{Strides}
 use Rattle.stride_trees.proofs.ProblemBounds.{are_fitting, AreFitting}
-use Rattle.stride_trees.proofs.Rows.{level_count}
+use Rattle.stride_trees.proofs.Rows.{order_row_count}
 
 pub made_small : (vars : ℕ) (rows : List RowExpr) → AreSmall vars rows → AreMadeSmall vars rows
 made_small vars rows h =
@@ -59,7 +59,8 @@ module _ (s : Strides) (strided : IsStrided s) (c : Context) (reader : depth_of_
 
   pub level_long : length level.rows ≡ 2 * s.level + cond (nat_lt s.level s.common) 1 0
   level_long =
-      level_count (common_of w r) s.level (nat_lt w.number r.number) (writer_place c w) (reader_place r) level.rows level.is
+      order_row_count (common_of w r) s.level (nat_lt w.number r.number) (writer_place c w) (reader_place r)
+      level.rows level.is
       ∙ ap (λ n. 2 * s.level + cond {A = ℕ} (nat_lt s.level n) 1 0) (sym strided.common)
 
   -- with nothing behind

@@ -58,27 +58,27 @@ next_less : (p c : ℕ) → nat_lt (suc p) (suc c) ≡ nat_lt p c
 next_less p c = grind arith
 
 -- two rows for each loop above the level, and one more at a loop
-pub level_count : (c p : ℕ) (less : Bool) (a b : List Form) (rows : List RowExpr)
+pub order_row_count : (c p : ℕ) (less : Bool) (a b : List Form) (rows : List RowExpr)
     → slice_get (order_rows c less a b) p ≡ Some rows → length rows ≡ 2 * p + cond (nat_lt p c) 1 0
-level_count zero zero true a b rows e =
+order_row_count zero zero true a b rows e =
     let is : [] ≡ rows = same_Some [] rows e in
     let strict : cond {A = ℕ} (nat_lt 0 0) 1 0 ≡ 0 = ap (λ b. cond {A = ℕ} b 1 0) (ltb-zero 0) in
     omega (arith, ap length (sym is), strict)
-level_count zero zero false a b rows e = absurd (let no : None ≡ Some rows = e in cc)
-level_count zero (suc p) true a b rows e = absurd (let no : None ≡ Some rows = e in cc)
-level_count zero (suc p) false a b rows e = absurd (let no : None ≡ Some rows = e in cc)
-level_count (suc c) p less [] b rows e = absurd (let no : None ≡ Some rows = e in cc)
-level_count (suc c) p less (v ∷ a) [] rows e = absurd (let no : None ≡ Some rows = e in cc)
-level_count (suc c) zero less (v ∷ a) (x ∷ b) rows e =
+order_row_count zero zero false a b rows e = absurd (let no : None ≡ Some rows = e in cc)
+order_row_count zero (suc p) true a b rows e = absurd (let no : None ≡ Some rows = e in cc)
+order_row_count zero (suc p) false a b rows e = absurd (let no : None ≡ Some rows = e in cc)
+order_row_count (suc c) p less [] b rows e = absurd (let no : None ≡ Some rows = e in cc)
+order_row_count (suc c) p less (v ∷ a) [] rows e = absurd (let no : None ≡ Some rows = e in cc)
+order_row_count (suc c) zero less (v ∷ a) (x ∷ b) rows e =
     let is : one_less (minus (Take x) (Take v)) ∷ [] ≡ rows = same_Some (one_less (minus (Take x) (Take v)) ∷ []) rows e
     in
     let strict : cond {A = ℕ} (nat_lt 0 (suc c)) 1 0 ≡ 1 = ap (λ b. cond {A = ℕ} b 1 0) (lt-ltb 0 (suc c) (omega arith)) in
     let one : length (one_less (minus (Take x) (Take v)) ∷ []) ≡ 1 = refl in
     omega (arith, ap length (sym is), one, strict)
-level_count (suc c) (suc p) less (v ∷ a) (x ∷ b) rows e =
+order_row_count (suc c) (suc p) less (v ∷ a) (x ∷ b) rows e =
     inner (slice_get (order_rows c less a b) p)
     (sym (slice_get-map (λ rows. equal_rows (Take v) (Take x) ++ rows) (order_rows c less a b) p) ∙ e)
-    (λ rest is. level_count c p less a b rest is) where
+    (λ rest is. order_row_count c p less a b rest is) where
       inner : (o : Option (List RowExpr)) → option_map (λ rows. equal_rows (Take v) (Take x) ++ rows) o ≡ Some rows
           → ((rest : List RowExpr) → o ≡ Some rest → length rest ≡ 2 * p + cond (nat_lt p c) 1 0)
           → length rows ≡ 2 * suc p + cond (nat_lt (suc p) (suc c)) 1 0

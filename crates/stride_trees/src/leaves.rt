@@ -15,7 +15,7 @@ ghost use Rattle.stride_trees.specs.Strides.{depth_of_write, read_of, write_of, 
 
 use crate::convert::{back, converted_place, converted_write, front, sum_terms};
 use crate::strides::Strides;
-use crate::undivided::level_count;
+use crate::undivided::order_row_count;
 use affine_core::KeptForm;
 use difference_graphs::test;
 use int_polyhedra::Proof;
@@ -104,7 +104,7 @@ fn writer_proofs(
     let last = back(told, between);
     let mut proofs = converted_place(s, places, here, first)?;
     push_after(&mut proofs, s.alloc, middle)?;
-    let more = level_count(s) + 1;
+    let more = order_row_count(s) + 1;
     push_between(&mut proofs, s, places, here, more, last)?;
     Ok(proofs)
 }
@@ -131,7 +131,7 @@ fn zero_proofs(
         → AreNoneCutSums (read_of s.now) (write_of s.now) s.now.level c proofs) }
 {
     let mut proofs = Items::new(s.alloc);
-    push_between(&mut proofs, s, places, here, level_count(s), told)?;
+    push_between(&mut proofs, s, places, here, order_row_count(s), told)?;
     Ok(proofs)
 }
 

@@ -4,7 +4,7 @@ ghost use Rattle.stride_trees.specs.Strides.{depth_of_read, read_of, IsNoLeaf, I
 
 use crate::divisions::Division;
 use crate::strides::Strides;
-use crate::undivided::{level_count, undivided_behind};
+use crate::undivided::{order_row_count, undivided_behind};
 use affine_core::{Form, KeptForm, KeptNumber};
 use int_polyhedra::Proof;
 use plain_data::{Boxed, Items};
@@ -48,7 +48,7 @@ fn no_leaf(s: &Strides, division: &Division, here: u32) -> Result<Tree, AllocErr
     requires here { here ≤ 4096 }
     ensures { IfOk result (IsNoLeaf s.now here division.now) }
 {
-    let more = level_count(s);
+    let more = order_row_count(s);
     let proof = undivided_behind(s, division, here, here + 2, more)?;
     zero_leaf(s.alloc, proof)
 }

@@ -86,7 +86,7 @@ fn indivisible(
 }
 
 /// How many order rows stand before the read at the level.
-pub fn level_count(s: &Strides) -> u32
+pub fn order_row_count(s: &Strides) -> u32
     requires { IsStrided s.now }
     ensures value { result ≡ 2 * s.now.level + (if nat_lt s.now.level s.now.common then 1 else 0) }
     ensures few { result ≤ 13 }

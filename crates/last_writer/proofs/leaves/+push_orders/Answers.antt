@@ -5,7 +5,7 @@ use Rattle.std.proofs.lemmas.List.{nil_from_length}
 use Rattle.std.proofs.lemmas.List.Elements.{All-tail}
 use Rattle.std.proofs.lemmas.Result.{IfOk-weaker}
 use Rattle.last_writer.proofs.OrderSteps.{orders_none, orders_step, rows_both}
-use Rattle.last_writer.specs.Leaves.{point_vars}
+use Rattle.last_writer.specs.Leaves.{write_vars}
 use Rattle.last_writer.proofs.leaves.+push_orders.Goals as goal
 
 pub returns-in_default-clause-proofs : goal.returns-in_default-clause-proofs
@@ -41,5 +41,5 @@ returns-clause-proofs t c =
     orders_step w rest x level c.args.orders.now n c.in-Some.orders.now behind c.args.told.now c.in_ok-told.told.now left.now
     c.args.proofs.now c.push_order.new.proofs c.push_orders.new.proofs first more
     (λ rows row. c.in_ok-told.ensures.proofs rest (level ++ rows) at
-    (rows_both (point_vars w x) c.args.before n level rows one row))
+    (rows_both (write_vars w x) c.args.before n level rows one row))
     (λ those rows. others rest level those at one rows)) c.push_orders.ensures.proofs

@@ -3,7 +3,7 @@ use Rattle.std.proofs.Common.{◌≡◌, ◌≤◌, sym, ◌∙◌, subst}
 use Rattle.std.specs.Prelude.{All}
 use Rattle.std.proofs.lemmas.Result.{IfOk-weaker}
 use Rattle.last_writer.proofs.LeafConversion.{few_behind, few_counts, further_rows, levels_of, writer_added, writer_levels}
-use Rattle.last_writer.specs.Leaves.{counts_behind, fact_context, order_counts, point_vars, HaveOrderRows}
+use Rattle.last_writer.specs.Leaves.{counts_behind, fact_context, order_counts, write_vars, HaveOrderRows}
 use Rattle.stride_trees.proofs.ProblemBounds.{are_fitting}
 use Rattle.stride_trees.specs.Strides.{read_of, write_of}
 use Rattle.last_writer.proofs.leaves.push_writer.Goals as goal
@@ -43,7 +43,7 @@ returns-clause-proofs c =
     let levels = levels_of x cx in
     writer_added w rest behind further x h c.args.told.now left.now c.args.proofs.now c.push_levels.new.proofs
     (added rest levels (further u) at
-    (subst (λ ks. HaveOrderRows (point_vars w x) ks levels) (sym levels_are)
+    (subst (λ ks. HaveOrderRows (write_vars w x) ks levels) (sym levels_are)
     (writer_levels w c.args.here rest x at c.requires.writer))
-    (subst (λ ks. HaveOrderRows (point_vars w x) ks (further u)) (sym orders_are)
+    (subst (λ ks. HaveOrderRows (write_vars w x) ks (further u)) (sym orders_are)
     (further_rows x.strides cx behind further h))))) c.push_levels.ensures.proofs

@@ -95,7 +95,8 @@ converted-requires c =
       ap length c.as_slice-writes.ensures,
       ap length c.as_slice.ensures,
       ap length c.in_ok-sources.ensures,
-      length-append (own_sources 0 c.args.here) (sources_behind rows writes root c.args.places.now c.args.here c.args.more),
+      length-append (own_sources 0 c.args.here)
+      (sources_behind rows writes root c.args.places.now c.args.here c.args.more),
       write_count rows writes root c.args.places.now c.args.here c.args.more,
       f.few_rows,
       f.few_subscripts,

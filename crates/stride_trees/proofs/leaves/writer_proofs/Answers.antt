@@ -87,7 +87,7 @@ push_between-requires-clause-more c =
     let t = c.requires.told in
     omega (
       arith,
-      c.level_count-more.ensures.few,
+      c.order_row_count-more.ensures.few,
       ap length c.back-last.ensures,
       length-drop (length c.args.told.now - c.len-2.result) c.args.told.now,
       c.len-2.ensures,
@@ -105,9 +105,9 @@ returns-clause-refuted c cx place at in_place near refuted =
     leaf_refuted c.args.s.now c.requires.strided c.args.places.now c.args.here c.args.told.now c.front-first.result.now
     c.front-whole.result.now c.back-middle.result.now c.back-last.result.now c.in_ok-proofs.proofs c.push_after.new.proofs
     c.push_between.new.proofs (c.len-rows.result + 2 * c.len.result) (length c.args.told.now - c.len-2.result)
-    (c.level_count-more.result + 1) (omega (arith, c.len-rows.ensures, c.len.ensures))
+    (c.order_row_count-more.result + 1) (omega (arith, c.len-rows.ensures, c.len.ensures))
     (ap (λ n. length c.args.told.now - n) c.len-2.ensures) c.front-first.ensures c.front-whole.ensures
-    c.back-middle.ensures c.back-last.ensures (ap (λ n. n + 1) c.level_count-more.ensures.value)
+    c.back-middle.ensures c.back-last.ensures (ap (λ n. n + 1) c.order_row_count-more.ensures.value)
     c.in_ok-push_after.ensures c.in_ok-push_between.ensures cx place at in_place near refuted
     (c.in_ok-proofs.ensures.refuted cx place at in_place)
 
@@ -116,8 +116,8 @@ returns-clause-cuts c cx place at in_place near refuted =
     leaf_cuts c.args.s.now c.requires.strided c.args.places.now c.args.here c.args.told.now c.front-first.result.now
     c.front-whole.result.now c.back-middle.result.now c.back-last.result.now c.in_ok-proofs.proofs c.push_after.new.proofs
     c.push_between.new.proofs (c.len-rows.result + 2 * c.len.result) (length c.args.told.now - c.len-2.result)
-    (c.level_count-more.result + 1) (omega (arith, c.len-rows.ensures, c.len.ensures))
+    (c.order_row_count-more.result + 1) (omega (arith, c.len-rows.ensures, c.len.ensures))
     (ap (λ n. length c.args.told.now - n) c.len-2.ensures) c.front-first.ensures c.front-whole.ensures
-    c.back-middle.ensures c.back-last.ensures (ap (λ n. n + 1) c.level_count-more.ensures.value)
+    c.back-middle.ensures c.back-last.ensures (ap (λ n. n + 1) c.order_row_count-more.ensures.value)
     c.in_ok-push_after.ensures c.in_ok-push_between.ensures cx place at in_place near refuted
     (c.in_ok-proofs.ensures.cuts cx place at in_place near)

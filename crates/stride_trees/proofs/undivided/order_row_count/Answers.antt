@@ -1,6 +1,6 @@
 use Rattle.std.proofs.Common.{arith}
 use Rattle.stride_trees.proofs.TestNodes.{room}
-use Rattle.stride_trees.proofs.undivided.level_count.Goals as goal
+use Rattle.stride_trees.proofs.undivided.order_row_count.Goals as goal
 
 pub overflow_cast-level : goal.overflow_cast-level
 overflow_cast-level c = omega (arith, (room c.args.s.now c.requires).level)

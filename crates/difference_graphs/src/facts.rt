@@ -93,7 +93,7 @@ impl Search {
 }
 
 // Adds these rows, of which the first has this number.
-fn push_sorted(search: &mut Search, number: u32, rows: &[Row]) -> Result<(), AllocError> {
+fn push_rows(search: &mut Search, number: u32, rows: &[Row]) -> Result<(), AllocError> {
     let Some((row, rows)) = rows.split_first() else {
         return Ok(());
     };
@@ -105,16 +105,16 @@ fn push_sorted(search: &mut Search, number: u32, rows: &[Row]) -> Result<(), All
         })?,
         None => search.others.push(number)?,
     }
-    push_sorted(search, number.wrapping_add(1), rows)
+    push_rows(search, number.wrapping_add(1), rows)
 }
 
-// Sorts the rows of a context, unless that is done.
+// Tells the rows of a context that bound differences from the others, unless that is done.
 fn begin(context: &System, search: &mut Search) -> Result<(), AllocError> {
     if search.is_begun {
         return Ok(());
     }
     search.is_begun = true;
-    push_sorted(search, 0, context.rows.as_slice())?;
+    push_rows(search, 0, context.rows.as_slice())?;
     for _ in 0..context.vars as usize + 1 {
         search.reached.push(None)?;
     }

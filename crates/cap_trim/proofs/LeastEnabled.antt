@@ -17,9 +17,9 @@ use Rattle.net_core.specs.declared.network.Event.TheVariants.{Get, Fire, Put}
 use Rattle.net_core.specs.Cuts.{Cut, IsCutRun, advanced, can_come_at, cut_after, enabled_at, gets_at, puts_at}
 use Rattle.net_core.specs.Machine.{Net}
 use Rattle.net_core.specs.Shape.{IsWired, is_get, is_put}
-use Rattle.net_core.proofs.CutOrder.{advanced_there, gets_mono, puts_mono}
+use Rattle.net_core.proofs.CutOrder.{advanced_there, gets_mono, puts_mono, cut_after-append}
 use Rattle.net_core.proofs.Positions.{gets_advanced, puts_advanced}
-use Rattle.witness_plan.proofs.AlongCuts.{IsCutRun-append, cut_after-append}
+use Rattle.witness_plan.proofs.AlongCuts.{IsCutRun-append}
 use Rattle.cap_trim.specs.LeastRuns.{LeadsTo, least_after}
 use Rattle.cap_trim.proofs.FirstPass.{find_is, find_least}
 use Rattle.cap_trim.proofs.MoreRoom.{run_roomier}

@@ -26,6 +26,7 @@ use Rattle.net_core.specs.declared.refs.Ref.{Ref}
 use Rattle.net_core.specs.Cuts.{Cut, advanced, can_come_at, cut_after, opening, positions}
 use Rattle.net_core.specs.Machine.{Net, enabled, net_of, next, start, step}
 use Rattle.net_core.specs.Rules.{tags}
+use Rattle.net_core.proofs.CutOrder.{cut_after-append}
 use Rattle.net_core.proofs.Positions.{enabled_as_cut, positions_step}
 use Rattle.net_checker.specs.declared.tag_state.TagState.{TagState}
 use Rattle.net_checker.specs.Choice.{first_below}
@@ -41,10 +42,6 @@ none_first (Some x) b h = cc
 none_second : {A : Type 0} (a b : Option A) → option_or a b ≡ None → b ≡ None
 none_second None b h = h
 none_second (Some x) b h = cc
-
-cut_after-append : (k : Cut) (xs ys : List ℕ) → cut_after k (xs ++ ys) ≡ cut_after (cut_after k xs) ys
-cut_after-append k [] ys = refl
-cut_after-append k (x ∷ xs) ys = cut_after-append (advanced k x) xs ys
 
 module _ (n : Nest) (net : Net) where
   fine_append : (xs ys : List ℕ) (k : Cut) (i : ℕ) → entries_refusal n net k i xs ≡ None

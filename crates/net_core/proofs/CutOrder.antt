@@ -6,7 +6,7 @@
 -- legal c is a run that ends at c (`within_runs`, at the lesser of both; there the bounds that a legal c keeps make up
 -- for the others being held back). And no run passes a cut above its start at which nobody may go on (`no_further`).
 -- Nothing here knows of states or values.
-use Rattle.std.proofs.Common.{◌≡◌, ◌⊎◌, ℕ, suc, ◌<◌, ◌≤◌, min, max, true, false, Option, Some, None, List, [], ◌∷◌}
+use Rattle.std.proofs.Common.{◌≡◌, ◌⊎◌, ℕ, suc, ◌<◌, ◌≤◌, min, max, true, false, Option, Some, None, List, [], ◌∷◌, ◌++◌}
 use Rattle.std.proofs.Common.{take, slice_get, count_by, refl, sym, ap, ◌∙◌, inl, inr, arith, ltb-true, lt-ltb, eq-eqb}
 use Rattle.std.proofs.Common.{nat_lt, if◌then◌else◌}
 use Rattle.std.proofs.lemmas.Bool.{cases_eq, cases_lt, le-ltb}
@@ -16,6 +16,11 @@ use Rattle.net_core.specs.Machine.{Net}
 use Rattle.net_core.specs.Shape.{is_get, is_put, IsWired}
 use Rattle.net_core.specs.Cuts.{Cut, gets_at, puts_at, can_come_at, enabled_at, advanced, cut_after, IsCutRun, IsLegal}
 use Rattle.net_core.proofs.EventCounts.{count_mono, count_past, replaced_same, replaced_other}
+
+-- one schedule after another
+pub cut_after-append : (k : Cut) (run more : List ℕ) → cut_after k (run ++ more) ≡ cut_after (cut_after k run) more
+cut_after-append k [] more = refl
+cut_after-append k (p ∷ run) more = cut_after-append (advanced k p) run more
 
 pub gets_mono : (n : Net) (k c : Cut) (ch : ℕ) → k (n.reader ch) ≤ c (n.reader ch) → gets_at n k ch ≤ gets_at n c ch
 gets_mono n k c ch h = count_mono (is_get ch) (n.script (n.reader ch)) _ _ h

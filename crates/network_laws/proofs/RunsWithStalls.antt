@@ -17,7 +17,8 @@ use Rattle.net_core.specs.Shape.{IsWired}
 use Rattle.net_core.proofs.Positions.{cut_run, enabled_as_cut, run_counted, run_ends, start_counted}
 use Rattle.clock_sim.specs.Clocks.{clocked_run, enabled_processes}
 use Rattle.network_laws.specs.Stalls.{run_with_stalls, steps_of_clock}
-use Rattle.witness_plan.proofs.AlongCuts.{IsCutRun-append, cut_after-append}
+use Rattle.net_core.proofs.CutOrder.{cut_after-append}
+use Rattle.witness_plan.proofs.AlongCuts.{IsCutRun-append}
 use Rattle.network_laws.proofs.OneClock.{clock_runs, positions_kept, positions_moved}
 
 -- a process that isn't there may never go on

@@ -14,11 +14,11 @@ use Rattle.net_core.specs.declared.network.Event.{Event}
 use Rattle.net_core.specs.Cuts.{advanced, cut_after, gets_at, opening, puts_at}
 use Rattle.net_core.specs.Machine.{Net}
 use Rattle.net_core.specs.Shape.{IsWired, is_get, is_put}
-use Rattle.net_core.proofs.CutOrder.{advanced_here, gets_mono, puts_mono}
+use Rattle.net_core.proofs.CutOrder.{advanced_here, gets_mono, puts_mono, cut_after-append}
 use Rattle.plain_data.proofs.Lists.{slice_get-append_cons}
 use Rattle.sanlp.proofs.Each.{Each}
 use Rattle.witness_plan.specs.Sequential.{greatest_length, queue_length}
-use Rattle.witness_plan.proofs.AlongCuts.{cut_after-append, cut_here, le-advanced}
+use Rattle.witness_plan.proofs.AlongCuts.{cut_here, le-advanced}
 use Rattle.net_core.proofs.Positions.{gets_advanced}
 use Rattle.net_core.proofs.Positions.{puts_advanced}
 use Rattle.witness_plan.proofs.GreatestLengths.{greatest_more, now_within}

@@ -4,7 +4,7 @@ use Rattle.std.proofs.Common.{ap}
 use Rattle.std.proofs.lemmas.Bool.{cases_eq}
 use Rattle.net_core.specs.Cuts.{Cut, IsCutRun, advanced, cut_after, opening}
 use Rattle.net_core.specs.Machine.{Net}
-use Rattle.net_core.proofs.CutOrder.{advanced_here, advanced_there}
+use Rattle.net_core.proofs.CutOrder.{advanced_here, advanced_there, cut_after-append}
 
 -- a cut is nowhere past the one after a process's step
 pub le-advanced : (k : Cut) (p q : ℕ) → k q ≤ advanced k p q
@@ -20,10 +20,6 @@ pub IsCutRun-append : (n : Net) (run more : List ℕ) (k : Cut) → IsCutRun n k
 IsCutRun-append n [] more k first later = later
 IsCutRun-append n (p ∷ run) more k first later =
     (first.0, IsCutRun-append n run more (advanced k p) first.1 later)
-
-pub cut_after-append : (k : Cut) (run more : List ℕ) → cut_after k (run ++ more) ≡ cut_after (cut_after k run) more
-cut_after-append k [] more = refl
-cut_after-append k (p ∷ run) more = cut_after-append (advanced k p) run more
 
 -- one event more
 pub cut_after-push : (run more : List ℕ) (p : ℕ) → more ≡ run ++ p ∷ []

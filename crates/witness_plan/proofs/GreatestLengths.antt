@@ -20,7 +20,7 @@ use Rattle.net_core.proofs.CountedLists.{set_at}
 use Rattle.net_core.proofs.Positions.{gets_advanced, puts_advanced}
 use Rattle.sanlp.proofs.Lists.{map-range_with_len_same}
 use Rattle.witness_plan.specs.Sequential.{greatest_length, queue_length}
-use Rattle.witness_plan.proofs.AlongCuts.{cut_after-append}
+use Rattle.net_core.proofs.CutOrder.{cut_after-append}
 
 -- The greatest length
 

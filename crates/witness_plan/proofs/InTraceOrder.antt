@@ -21,7 +21,8 @@ use Rattle.sanlp.specs.declared.nest.Point.{Point}
 use Rattle.sanlp.specs.declared.nest.Tag.{Tag}
 use Rattle.sanlp.specs.Tags.{tag_at}
 use Rattle.sanlp.proofs.Lists.{flat_map-range_with_len_more, range_with_len_more}
-use Rattle.witness_plan.proofs.AlongCuts.{cut_after-append, cut_here, cut_there}
+use Rattle.net_core.proofs.CutOrder.{cut_after-append}
+use Rattle.witness_plan.proofs.AlongCuts.{cut_here, cut_there}
 
 -- how many of the first t entries are of process p
 abbrev pub turns_before : List Point → ℕ → ℕ → ℕ

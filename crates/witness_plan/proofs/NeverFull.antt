@@ -26,9 +26,9 @@ use Rattle.net_core.proofs.Positions.{cut_run, gets_advanced, puts_advanced, run
 use Rattle.sanlp.specs.declared.nest.Tag.{Tag}
 use Rattle.witness_plan.specs.Schedules.{could_come_at, is_ready}
 use Rattle.witness_plan.specs.Sequential.{capacities, channels_with, greatest_length, queue_length, with_capacities}
-use Rattle.witness_plan.proofs.AlongCuts.{cut_after-append}
 use Rattle.witness_plan.proofs.GreatestLengths.{greatest_more, now_within}
 use Rattle.witness_plan.proofs.OtherCapacities.{net_kept, reader_kept, wired_kept, writer_kept}
+use Rattle.net_core.proofs.CutOrder.{cut_after-append}
 
 -- the network with room for all its tokens in each channel
 abbrev pub never_full : Net → Net

@@ -16,8 +16,8 @@ use Rattle.net_core.specs.Shape.{IsWired}
 use Rattle.witness_plan.specs.Records.{IsRecord, lengths_after}
 use Rattle.witness_plan.specs.Sequential.{greatest_length, queue_length}
 use Rattle.witness_plan.specs.declared.recorder.Recorder.{Recorder}
-use Rattle.witness_plan.proofs.AlongCuts.{cut_after-append}
 use Rattle.witness_plan.proofs.GreatestLengths.{greatest_kept, greatest_put}
+use Rattle.net_core.proofs.CutOrder.{cut_after-append}
 
 pub record_none : (net : Net) (recorder : Recorder) → recorder.schedule ≡ [] → IsProgress net recorder.progress
     → cut_of recorder.progress ≡ opening → recorder.greatest.items ≡ replicate net.channels 0 → IsRecord net recorder

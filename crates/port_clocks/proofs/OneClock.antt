@@ -13,11 +13,11 @@ use Rattle.net_core.specs.declared.network.Event.{Event}
 use Rattle.net_core.specs.declared.network.Event.TheVariants.{Get, Fire, Put}
 use Rattle.net_core.specs.Machine.{Net, Rule, can_come}
 use Rattle.net_core.specs.Shape.{is_any_get, is_fire, IsWired}
-use Rattle.port_runs.specs.Ports.{AllHaveCome, IsPortRun, Place, PortState, event_at, may_come_at, port_after}
+use Rattle.port_runs.specs.Ports.{AllHaveCome, IsPortRun, EventPlace, PortState, event_at, may_come_at, port_after}
 use Rattle.port_runs.specs.Ports.{port_step, with_place}
 use Rattle.port_runs.proofs.PortCounts.{PortCounted, port_counted, same_can, same_may}
 use Rattle.port_runs.proofs.PortSteps.{Coming, coming, may_from}
-use Rattle.port_clocks.specs.PortClocks.{behind_fires, behind_puts, comes, events_of_clock, fires_of_clock, gets_of_clock}
+use Rattle.port_clocks.specs.PortClocks.{after_fires, after_puts, comes, events_of_clock, fires_of_clock, gets_of_clock}
 use Rattle.port_clocks.specs.PortClocks.{is_any_put, part_of_clock, places, puts_of_clock}
 use Rattle.port_clocks.proofs.PortParts.{NetPart, come_grows, net_part, port_after_append, port_run_append}
 
@@ -73,27 +73,27 @@ module _ {T : Type 0} (n : Net) (rule : Rule T) (wired : IsWired n) (s : PortSta
   abbrev puts_part : NetPart n rule (comes n is_any_put s s) 0 n.processes s (puts_of_clock n s)
   puts_part = the_part is_any_put s
 
-  abbrev fires_part : NetPart n rule (comes n is_fire s (behind_puts n rule s)) 0 n.processes (behind_puts n rule s)
+  abbrev fires_part : NetPart n rule (comes n is_fire s (after_puts n rule s)) 0 n.processes (after_puts n rule s)
       (fires_of_clock n rule s)
-  fires_part = the_part is_fire (behind_puts n rule s)
+  fires_part = the_part is_fire (after_puts n rule s)
 
-  abbrev gets_part : NetPart n rule (comes n is_any_get s (behind_fires n rule s)) 0 n.processes
-      (behind_fires n rule s) (gets_of_clock n rule s)
-  gets_part = the_part is_any_get (behind_fires n rule s)
+  abbrev gets_part : NetPart n rule (comes n is_any_get s (after_fires n rule s)) 0 n.processes
+      (after_fires n rule s) (gets_of_clock n rule s)
+  gets_part = the_part is_any_get (after_fires n rule s)
 
   -- The clock
 
   pub clock_run : IsPortRun n rule s (events_of_clock n rule s)
   clock_run =
       port_run_append n rule (puts_of_clock n s) (fires_of_clock n rule s ++ gets_of_clock n rule s) s puts_part.is
-      (port_run_append n rule (fires_of_clock n rule s) (gets_of_clock n rule s) (behind_puts n rule s) fires_part.is
+      (port_run_append n rule (fires_of_clock n rule s) (gets_of_clock n rule s) (after_puts n rule s) fires_part.is
       gets_part.is)
 
   pub behind_clock : port_after n rule s (events_of_clock n rule s)
-      ≡ port_after n rule (behind_fires n rule s) (gets_of_clock n rule s)
+      ≡ port_after n rule (after_fires n rule s) (gets_of_clock n rule s)
   behind_clock =
       port_after_append n rule (puts_of_clock n s) (fires_of_clock n rule s ++ gets_of_clock n rule s) s
-      ∙ port_after_append n rule (fires_of_clock n rule s) (gets_of_clock n rule s) (behind_puts n rule s)
+      ∙ port_after_append n rule (fires_of_clock n rule s) (gets_of_clock n rule s) (after_puts n rule s)
 
   -- a process with an event is there
   there : (p k : ℕ) → Coming n s p k → (p < n.processes) × (k < length (n.script p))
@@ -113,37 +113,38 @@ module _ {T : Type 0} (n : Net) (rule : Rule T) (wired : IsWired n) (s : PortSta
       subst (λ (t : PortState T). t.has_come p k ≡ true) (sym behind_clock)
       (elim (kinds c.event) [
         | inl put ↦
-            come_grows n rule (gets_of_clock n rule s) (behind_fires n rule s) p k
-            (come_grows n rule (fires_of_clock n rule s) (behind_puts n rule s) p k
+            come_grows n rule (gets_of_clock n rule s) (after_fires n rule s) p k
+            (come_grows n rule (fires_of_clock n rule s) (after_puts n rule s) p k
             (puts_part.come p k (omega arith) (omega (arith, at.0)) at.1 (passes is_any_put s p k c c put)))
         | inr other ↦
             elim other [
               | inl fire ↦
                   let d = puts_part.others p k (fails is_any_put s p k c (fire_no_put c.event fire)) c in
-                  come_grows n rule (gets_of_clock n rule s) (behind_fires n rule s) p k
+                  come_grows n rule (gets_of_clock n rule s) (after_fires n rule s) p k
                   (fires_part.come p k (omega arith) (omega (arith, at.0)) at.1
-                  (passes is_fire (behind_puts n rule s) p k c d fire))
+                  (passes is_fire (after_puts n rule s) p k c d fire))
               | inr get ↦
                   let d = puts_part.others p k (fails is_any_put s p k c (get_no_put c.event get)) c in
                   let e =
-                  fires_part.others p k (fails is_fire (behind_puts n rule s) p k c (get_no_fire c.event get)) d in
+                  fires_part.others p k (fails is_fire (after_puts n rule s) p k c (get_no_fire c.event get)) d in
                   gets_part.come p k (omega arith) (omega (arith, at.0)) at.1
-                  (passes is_any_get (behind_fires n rule s) p k c e get)
+                  (passes is_any_get (after_fires n rule s) p k c e get)
             ]
       ])
 
   -- where no event comes none may
-  pub nothing_may : events_of_clock n rule s ≡ [] → (at : Place) → may_come_at n s at ≡ true → ⊥
+  pub nothing_may : events_of_clock n rule s ≡ [] → (at : EventPlace) → may_come_at n s at ≡ true → ⊥
   nothing_may none at on =
       let c = coming n s at.0 at.1 on in
       both_ways (s.has_come at.0 at.1) c.new
-      (ap (λ (run : List Place). (port_after n rule s run).has_come at.0 at.1) (sym none) ∙ clock_comes at.0 at.1 c)
+      (ap (λ (run : List EventPlace). (port_after n rule s run).has_come at.0 at.1) (sym none)
+      ∙ clock_comes at.0 at.1 c)
 
   -- where all have come none comes
   pub none_comes : AllHaveCome n s → events_of_clock n rule s ≡ []
   none_comes all = none (events_of_clock n rule s) clock_run
     where
-      none : (run : List Place) → IsPortRun n rule s run → run ≡ []
+      none : (run : List EventPlace) → IsPortRun n rule s run → run ≡ []
       none [] is = refl
       none (at ∷ run) is =
           let c = coming n s at.0 at.1 is.0 in
@@ -152,7 +153,7 @@ module _ {T : Type 0} (n : Net) (rule : Rule T) (wired : IsWired n) (s : PortSta
 
 -- What comes, whatever fires give
 
-pub same_come : {T U : Type 0} (n : Net) (rule : Rule T) (other : Rule U) (run : List Place) (s : PortState T)
+pub same_come : {T U : Type 0} (n : Net) (rule : Rule T) (other : Rule U) (run : List EventPlace) (s : PortState T)
     (t : PortState U) → s.has_come ≡ t.has_come
     → (port_after n rule s run).has_come ≡ (port_after n other t run).has_come
 same_come n rule other [] s t same = same
@@ -172,10 +173,10 @@ module _ {T U : Type 0} (n : Net) (rule : Rule T) (other : Rule U) (wired : IsWi
       (same_may n a b ha hb alike at (event_at n at))) (places n)
 
   abbrev s_puts : PortState T
-  s_puts = behind_puts n rule s
+  s_puts = after_puts n rule s
 
   abbrev t_puts : PortState U
-  t_puts = behind_puts n other t
+  t_puts = after_puts n other t
 
   same_puts : puts_of_clock n s ≡ puts_of_clock n t
   same_puts = same_part is_any_put s t h g same
@@ -189,20 +190,20 @@ module _ {T U : Type 0} (n : Net) (rule : Rule T) (other : Rule U) (wired : IsWi
   come_puts : s_puts.has_come ≡ t_puts.has_come
   come_puts =
       same_come n rule other (puts_of_clock n s) s t same
-      ∙ ap (λ (run : List Place). (port_after n other t run).has_come) same_puts
+      ∙ ap (λ (run : List EventPlace). (port_after n other t run).has_come) same_puts
 
   same_fires : fires_of_clock n rule s ≡ fires_of_clock n other t
   same_fires = same_part is_fire s_puts t_puts counted_s counted_t come_puts
 
   same_gets : gets_of_clock n rule s ≡ gets_of_clock n other t
   same_gets =
-      same_part is_any_get (behind_fires n rule s) (behind_fires n other t)
+      same_part is_any_get (after_fires n rule s) (after_fires n other t)
       (port_counted n rule wired (fires_of_clock n rule s) s_puts counted_s (the_part n rule wired s is_fire s_puts).is)
       (port_counted n other wired (fires_of_clock n other t) t_puts counted_t
       (the_part n other wired t is_fire t_puts).is)
       (same_come n rule other (fires_of_clock n rule s) s_puts t_puts come_puts
-      ∙ ap (λ (run : List Place). (port_after n other t_puts run).has_come) same_fires)
+      ∙ ap (λ (run : List EventPlace). (port_after n other t_puts run).has_come) same_fires)
 
   pub same_clock : events_of_clock n rule s ≡ events_of_clock n other t
   same_clock =
-      ap₂ (λ x y. x ++ y) same_puts (ap₂ (λ (x y : List Place). x ++ y) same_fires same_gets)
+      ap₂ (λ x y. x ++ y) same_puts (ap₂ (λ (x y : List EventPlace). x ++ y) same_fires same_gets)

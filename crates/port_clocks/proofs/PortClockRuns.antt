@@ -13,7 +13,7 @@ use Rattle.net_core.specs.Machine.{Net, Rule}
 use Rattle.net_core.specs.Rules.{tags}
 use Rattle.net_core.specs.Shape.{IsWired, events_below}
 use Rattle.clock_sim.specs.Clocks.{ClockedRunEnds, clocks}
-use Rattle.port_runs.specs.Ports.{AllHaveCome, Place, PortsEndAlways, port_reached, port_start}
+use Rattle.port_runs.specs.Ports.{AllHaveCome, EventPlace, PortsEndAlways, port_reached, port_start}
 use Rattle.port_clocks.specs.PortClocks.{PortClocksEnd, after_port_clocks, clocked_port_run, events_of_clock}
 use Rattle.port_clocks.specs.PortClocks.{is_still_after, port_clocks}
 use Rattle.port_clocks.proofs.NotBehind.{clocked_ports, counted_after, never_behind}
@@ -27,13 +27,13 @@ module _ {T U : Type 0} (n : Net) (rule : Rule T) (other : Rule U) (wired : IsWi
       same_clock n rule other wired (after_port_clocks n rule k) (after_port_clocks n other k)
       (counted_after n rule wired k) (counted_after n other wired k)
       (same_come n rule other (clocked_port_run n rule k) (port_start n) (port_start n) refl
-      ∙ ap (λ (run : List Place). (port_reached n other run).has_come) same)
+      ∙ ap (λ (run : List EventPlace). (port_reached n other run).has_come) same)
 
   same_clocks : (k : ℕ) → clocked_port_run n rule k ≡ clocked_port_run n other k
   same_clocks zero = refl
   same_clocks (suc k) =
-      ap (λ (run : List Place). run ++ events_of_clock n rule (after_port_clocks n rule k)) (same_clocks k)
-      ∙ ap (λ (run : List Place). clocked_port_run n other k ++ run) (same_after k (same_clocks k))
+      ap (λ (run : List EventPlace). run ++ events_of_clock n rule (after_port_clocks n rule k)) (same_clocks k)
+      ∙ ap (λ (run : List EventPlace). clocked_port_run n other k ++ run) (same_after k (same_clocks k))
 
   pub same_events : (k : ℕ)
       → events_of_clock n rule (after_port_clocks n rule k) ≡ events_of_clock n other (after_port_clocks n other k)

@@ -15,7 +15,7 @@ use Rattle.net_core.specs.declared.network.Event.TheVariants.{Get, Fire, Put}
 use Rattle.net_core.specs.Machine.{Net, Rule, State, can_come, queue_after}
 use Rattle.net_core.specs.Shape.{is_get, is_put, IsWired}
 use Rattle.net_core.proofs.TwoSteps.{get_reader, grows, put_writer, shrinks}
-use Rattle.port_runs.specs.Ports.{IsPortRun, Place, PortState, are_dependent, port_after, port_step, with_place}
+use Rattle.port_runs.specs.Ports.{IsPortRun, EventPlace, PortState, are_dependent, port_after, port_step, with_place}
 use Rattle.port_runs.proofs.DueEvents.{due_before, due_from, gets_depend, place_grows, place_here, place_other, puts_depend}
 use Rattle.port_runs.proofs.PortSteps.{Coming, may_from, run_after}
 use Rattle.port_clocks.specs.PortClocks.{places_of}
@@ -89,12 +89,12 @@ module _ {T : Type 0} (n : Net) (rule : Rule T) (wired : IsWired n) (s : PortSta
 
 -- Runs one after another
 
-pub port_after_append : {T : Type 0} (n : Net) (rule : Rule T) (run more : List Place) (s : PortState T)
+pub port_after_append : {T : Type 0} (n : Net) (rule : Rule T) (run more : List EventPlace) (s : PortState T)
     → port_after n rule s (run ++ more) ≡ port_after n rule (port_after n rule s run) more
 port_after_append n rule [] more s = refl
 port_after_append n rule (at ∷ run) more s = port_after_append n rule run more (port_step n rule s at)
 
-pub port_run_append : {T : Type 0} (n : Net) (rule : Rule T) (run more : List Place) (s : PortState T)
+pub port_run_append : {T : Type 0} (n : Net) (rule : Rule T) (run more : List EventPlace) (s : PortState T)
     → IsPortRun n rule s run
     → IsPortRun n rule (port_after n rule s run) more → IsPortRun n rule s (run ++ more)
 port_run_append n rule [] more s first later = later
@@ -102,7 +102,7 @@ port_run_append n rule (at ∷ run) more s first later =
     (first.0, port_run_append n rule run more (port_step n rule s at) first.1 later)
 
 -- what has come stays so
-pub come_grows : {T : Type 0} (n : Net) (rule : Rule T) (run : List Place) (s : PortState T) (q j : ℕ)
+pub come_grows : {T : Type 0} (n : Net) (rule : Rule T) (run : List EventPlace) (s : PortState T) (q j : ℕ)
     → s.has_come q j ≡ true → (port_after n rule s run).has_come q j ≡ true
 come_grows n rule [] s q j on = on
 come_grows n rule (at ∷ run) s q j on =
@@ -111,24 +111,24 @@ come_grows n rule (at ∷ run) s q j on =
 -- A part
 
 -- of the places of process p from a on, m in number, those that pass a test come, and the others still may come
-pub record ProcessPart {T : Type 0} (n : Net) (rule : Rule T) (test : Place → Bool) (p a m : ℕ) (s : PortState T)
-    (run : List Place) : Type 0 where
+pub record ProcessPart {T : Type 0} (n : Net) (rule : Rule T) (test : EventPlace → Bool) (p a m : ℕ) (s : PortState T)
+    (run : List EventPlace) : Type 0 where
   pub is : IsPortRun n rule s run
   pub others : (q j : ℕ) → (test (q, j) ≡ true → q ≡ p → ⊥) → Coming n s q j
       → Coming n (port_after n rule s run) q j
   pub come : (k : ℕ) → a ≤ k → k < a + m → test (p, k) ≡ true → (port_after n rule s run).has_come p k ≡ true
 
 -- the same of the processes from a on, m in number
-pub record NetPart {T : Type 0} (n : Net) (rule : Rule T) (test : Place → Bool) (a m : ℕ) (s : PortState T)
-    (run : List Place) : Type 0 where
+pub record NetPart {T : Type 0} (n : Net) (rule : Rule T) (test : EventPlace → Bool) (a m : ℕ) (s : PortState T)
+    (run : List EventPlace) : Type 0 where
   pub is : IsPortRun n rule s run
   pub others : (q j : ℕ) → test (q, j) ≡ false → Coming n s q j → Coming n (port_after n rule s run) q j
   pub come : (q j : ℕ) → a ≤ q → q < a + m → j < length (n.script q) → test (q, j) ≡ true
       → (port_after n rule s run).has_come q j ≡ true
 
-module _ {T : Type 0} (n : Net) (rule : Rule T) (wired : IsWired n) (test : Place → Bool) where
+module _ {T : Type 0} (n : Net) (rule : Rule T) (wired : IsWired n) (test : EventPlace → Bool) where
   -- those places of a process that pass
-  abbrev passing : ℕ → ℕ → ℕ → List Place
+  abbrev passing : ℕ → ℕ → ℕ → List EventPlace
   passing p a m = filter test (map (λ k. (p, k)) (range_with_len a m))
 
   process_part : (p m a : ℕ) (s : PortState T)
@@ -185,7 +185,7 @@ module _ {T : Type 0} (n : Net) (rule : Rule T) (wired : IsWired n) (test : Plac
       above a k low d = elim (cases_lt a k) [ inl lt ↦ omega arith | inr ge ↦ absurd (d (omega arith)) ]
 
   -- those places of some processes that pass
-  abbrev pub passing_all : ℕ → ℕ → List Place
+  abbrev pub passing_all : ℕ → ℕ → List EventPlace
   passing_all a m = filter test (flat_map (places_of n) (range_with_len a m))
 
   pub net_part : (m a : ℕ) (s : PortState T)

@@ -70,6 +70,25 @@ three_turns : port_clocks (increments 3 1) ≡ 11
 unfolding port_clocks
 three_turns = refl
 
+-- a source that gives two values to a sink, over a channel of this capacity
+abbrev copies : ℕ → Net
+copies capacity =
+    network
+    (times 2 (Fire [] ∷ Put 0 ∷ []) ∷ times 2 (Get 0 0 ∷ Fire (Slot 0 ∷ []) ∷ []) ∷ [])
+    (0 ∷ 1 ∷ []) (0 ∷ []) (1 ∷ []) (capacity ∷ [])
+
+-- source F1 P2 F2 P4, sink G3 F4 G5 F6
+two_elements : port_clocks (copies 1) ≡ 6
+unfolding port_clocks
+two_elements = refl
+
+-- With a second place the second Put needs no room that a Get leaves, and one clock is saved.
+-- source F1 P2 F2 P3, sink G3 F4 G4 F5
+
+second_place : port_clocks (copies 2) ≡ 5
+unfolding port_clocks
+second_place = refl
+
 -- at clock 3 the source waits, though the place that it waits for is left at that clock
 third_clock : events_of_clock (increments 3 1) tags (after_port_clocks (increments 3 1) tags 2) ≡ (1, 0) ∷ []
 third_clock = refl

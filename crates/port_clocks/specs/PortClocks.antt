@@ -1,8 +1,8 @@
 -- The run of a network's ports by one clock: at each clock at most one event of each port, and one fire of each process.
 --
--- A clock has three parts, as registers change: values that were fired leave by Puts, then fires take the slots, then Gets fill them
--- anew. What a Put reads may be overwritten by a fire of the same clock, and what a fire reads by a Get; so a process may fire at
--- every clock. A channel has the tokens and the room that it had at the clock's beginning.
+-- A clock has three parts, as registers change: values that were fired leave by Puts, then fires take the slots, then Gets fill
+-- them anew. What a Put reads may be overwritten by a fire of the same clock, and what a fire reads by a Get; so a process may
+-- fire at every clock. A channel has the tokens and the room that it had at the clock's beginning.
 use Rattle.std.specs.Prelude.{◌≡◌, ◌<◌, ◌≤◌, ◌==◌, ◌&&◌, ℕ, zero, suc, Bool, true, false, List, [], ◌++◌, length, map}
 use Rattle.std.specs.List.{filter, flat_map, position_or_len, range_with_len}
 use Rattle.std.specs.Option.{option_map_or}
@@ -13,7 +13,7 @@ use Rattle.net_core.specs.Machine.{Net, Rule, can_come}
 use Rattle.net_core.specs.Rules.{tags}
 use Rattle.net_core.specs.Shape.{events_below, is_any_get, is_fire}
 use Rattle.clock_sim.specs.Clocks.{after_clocks, clocks}
-use Rattle.port_runs.specs.Ports.{AllHaveCome, IsPortRun, Place, PortState, event_at, may_come_at, port_after, port_reached, port_start}
+use Rattle.port_runs.specs.Ports.{AllHaveCome, IsPortRun, EventPlace, PortState, event_at, may_come_at, port_after, port_reached, port_start}
 
 -- whether an event is a Put, of whatever channel
 abbrev pub is_any_put : Event → Bool
@@ -22,46 +22,47 @@ is_any_put (Fire refs) = false
 is_any_put (Put channel) = true
 
 -- the events of a process by their places, and those of a network, ascending
-abbrev pub places_of : Net → ℕ → List Place
+abbrev pub places_of : Net → ℕ → List EventPlace
 places_of n p = map (λ k. (p, k)) (range_with_len 0 (length (n.script p)))
 
-abbrev pub places : Net → List Place
+abbrev pub places : Net → List EventPlace
 places n = flat_map (places_of n) (range_with_len 0 n.processes)
 
 -- whether an event of a kind comes in a part of a clock: its channel lets it in the state at the clock's beginning, and it may
 -- come in that at the part's
-abbrev pub comes : {T : Type 0} → Net → (Event → Bool) → PortState T → PortState T → Place → Bool
+abbrev pub comes : {T : Type 0} → Net → (Event → Bool) → PortState T → PortState T → EventPlace
+    → Bool
 comes n kind clock part at =
     option_map_or kind (event_at n at) false
     && (can_come n clock.run (event_at n at) && may_come_at n part at)
 
 abbrev pub part_of_clock : {T : Type 0} → Net → (Event → Bool) → PortState T → PortState T
-    → List Place
+    → List EventPlace
 part_of_clock n kind clock part = filter (comes n kind clock part) (places n)
 
 -- the Puts, the Fires and the Gets of the clock that begins in this state, each in the state behind those before
-abbrev pub puts_of_clock : {T : Type 0} → Net → PortState T → List Place
+abbrev pub puts_of_clock : {T : Type 0} → Net → PortState T → List EventPlace
 puts_of_clock n s = part_of_clock n is_any_put s s
 
-abbrev pub behind_puts : {T : Type 0} → Net → Rule T → PortState T → PortState T
-behind_puts n rule s = port_after n rule s (puts_of_clock n s)
+abbrev pub after_puts : {T : Type 0} → Net → Rule T → PortState T → PortState T
+after_puts n rule s = port_after n rule s (puts_of_clock n s)
 
-abbrev pub fires_of_clock : {T : Type 0} → Net → Rule T → PortState T → List Place
-fires_of_clock n rule s = part_of_clock n is_fire s (behind_puts n rule s)
+abbrev pub fires_of_clock : {T : Type 0} → Net → Rule T → PortState T → List EventPlace
+fires_of_clock n rule s = part_of_clock n is_fire s (after_puts n rule s)
 
-abbrev pub behind_fires : {T : Type 0} → Net → Rule T → PortState T → PortState T
-behind_fires n rule s = port_after n rule (behind_puts n rule s) (fires_of_clock n rule s)
+abbrev pub after_fires : {T : Type 0} → Net → Rule T → PortState T → PortState T
+after_fires n rule s = port_after n rule (after_puts n rule s) (fires_of_clock n rule s)
 
-abbrev pub gets_of_clock : {T : Type 0} → Net → Rule T → PortState T → List Place
-gets_of_clock n rule s = part_of_clock n is_any_get s (behind_fires n rule s)
+abbrev pub gets_of_clock : {T : Type 0} → Net → Rule T → PortState T → List EventPlace
+gets_of_clock n rule s = part_of_clock n is_any_get s (after_fires n rule s)
 
 -- all events of the clock that begins in this state
-abbrev pub events_of_clock : {T : Type 0} → Net → Rule T → PortState T → List Place
+abbrev pub events_of_clock : {T : Type 0} → Net → Rule T → PortState T → List EventPlace
 events_of_clock n rule s =
     puts_of_clock n s ++ (fires_of_clock n rule s ++ gets_of_clock n rule s)
 
 -- the events of the first so many clocks, and the state after them
-abbrev pub clocked_port_run : {T : Type 0} → Net → Rule T → ℕ → List Place
+abbrev pub clocked_port_run : {T : Type 0} → Net → Rule T → ℕ → List EventPlace
 clocked_port_run n rule zero = []
 clocked_port_run n rule (suc k) =
     clocked_port_run n rule k

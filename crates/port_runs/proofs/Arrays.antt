@@ -15,10 +15,10 @@ use Rattle.net_core.specs.Rules.{values}
 use Rattle.net_core.specs.Sound.{IsSound, sink_lists, sink_lists_from, tag_value}
 use Rattle.net_core.proofs.FireValues.{gives_values}
 use Rattle.net_core.proofs.PlaceValues.{ended_kept}
-use Rattle.port_runs.specs.Ports.{AllHaveCome, IsPortRun, Place, port_reached, port_start}
+use Rattle.port_runs.specs.Ports.{AllHaveCome, IsPortRun, EventPlace, port_reached, port_start}
 use Rattle.port_runs.proofs.PortValues.{all_kept}
 
-pub port_arrays : (nest : Nest) (network : Network) (d : Inputs) (run : List Place) → IsSound nest network
+pub port_arrays : (nest : Nest) (network : Network) (d : Inputs) (run : List EventPlace) → IsSound nest network
     → IsPortRun (net_of network) (values nest d) (port_start (net_of network)) run
     → AllHaveCome (net_of network) (port_reached (net_of network) (values nest d) run)
     → sink_lists nest (port_reached (net_of network) (values nest d) run).run ≡ arrays nest d

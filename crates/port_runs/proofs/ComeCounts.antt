@@ -8,7 +8,7 @@ use Rattle.std.specs.Option.{option_map_or}
 use Rattle.std.proofs.lemmas.Bool.{and_from, and_left, and_right, cases_Bool, cases_eq, cases_lt, cond-true, cond-false}
 use Rattle.net_core.specs.declared.network.Event.{Event}
 use Rattle.net_core.proofs.EventCounts.{count_next, count_none}
-use Rattle.port_runs.specs.Named.{come_count}
+use Rattle.port_runs.specs.PortNames.{come_count}
 
 -- no event has come
 pub count_zero : (kind : Event → Bool) (script : List Event) (m : ℕ) → come_count kind (λ k. false) script m ≡ 0

@@ -14,17 +14,17 @@ use Rattle.net_core.specs.Shape.{is_fire, is_get, is_put, IsWired}
 use Rattle.net_core.proofs.EventCounts.{replaced_same, replaced_other}
 use Rattle.net_core.proofs.Positions.{last_short, put_fired}
 use Rattle.net_core.proofs.TwoSteps.{shrinks}
-use Rattle.port_runs.specs.Ports.{IsPortRun, Place, PortState, is_due, may_come, port_after}
+use Rattle.port_runs.specs.Ports.{IsPortRun, EventPlace, PortState, is_due, may_come, port_after}
 use Rattle.port_runs.specs.Ports.{port_start, port_step}
-use Rattle.port_runs.specs.Named.{come_count, gets_made, made, puts_made}
+use Rattle.port_runs.specs.PortNames.{come_count, gets_so_far, event_count, puts_so_far}
 use Rattle.port_runs.proofs.ComeCounts.{count_zero}
 use Rattle.port_runs.proofs.PortSteps.{Coming, IsOrdered, coming, fires_here, gets_more, made_more, made_same, ordered_step}
 use Rattle.port_runs.proofs.PortSteps.{puts_more, run_after}
 
 pub record PortCounted {T : Type 0} (n : Net) (s : PortState T) : Type 0 where
   pub ordered : IsOrdered n s.has_come
-  pub queues : (c : ℕ) → length (s.run.queue c) + gets_made n s c ≡ puts_made n s c
-  pub kept : (p : ℕ) → length (s.run.local p).kept ≡ made n s is_fire p
+  pub queues : (c : ℕ) → length (s.run.queue c) + gets_so_far n s c ≡ puts_so_far n s c
+  pub kept : (p : ℕ) → length (s.run.local p).kept ≡ event_count n s is_fire p
 
 pub start_counted : {T : Type 0} (n : Net) → PortCounted {T = T} n (port_start n)
 start_counted n = record {
@@ -76,7 +76,7 @@ module _ {T : Type 0} (n : Net) (rule : Rule T) (wired : IsWired n) (s : PortSta
   fired_before ch t =
       omega (arith, h.kept p, fires_here n s p k h.ordered c, put_fired n wired p k ch c.event c.is t)
 
-  counted_queue : (ch : ℕ) → length (next.run.queue ch) + gets_made n next ch ≡ puts_made n next ch
+  counted_queue : (ch : ℕ) → length (next.run.queue ch) + gets_so_far n next ch ≡ puts_so_far n next ch
   counted_queue ch =
       omega (
         arith,
@@ -98,14 +98,15 @@ module _ {T : Type 0} (n : Net) (rule : Rule T) (wired : IsWired n) (s : PortSta
       ap (λ (t : State T). t.local q) (run_after n rule s p k c)
       ∙ replaced_other s.run.local p (local_after rule p (s.run.local p) s.run.queue c.event) q d
 
-  counted_kept : (q : ℕ) → length (next.run.local q).kept ≡ made n next is_fire q
+  counted_kept : (q : ℕ) → length (next.run.local q).kept ≡ event_count n next is_fire q
   counted_kept q =
       elim (cases_eq q p) [
         | inl same ↦
             let here : length (next.run.local q).kept ≡ length (s.run.local p).kept + cond (is_fire c.event) 1 0 =
             ap (λ (l : Local T). length l.kept) (local_here q same)
             ∙ local_after_kept rule p (s.run.local p) s.run.queue c.event in
-            let count : made n next is_fire q ≡ made n next is_fire p = ap (made n next is_fire) same in
+            let count : event_count n next is_fire q ≡ event_count n next is_fire p =
+            ap (event_count n next is_fire) same in
             omega (arith, here, count, made_more n rule s p k c is_fire, h.kept p)
         | inr d ↦
             ap (λ (l : Local T). length l.kept) (local_there q d) ∙ h.kept q
@@ -150,7 +151,7 @@ module _ {T : Type 0} (n : Net) (rule : Rule T) (wired : IsWired n) (s : PortSta
 
 -- Runs
 
-pub port_counted : {T : Type 0} (n : Net) (rule : Rule T) → IsWired n → (run : List Place) (s : PortState T)
+pub port_counted : {T : Type 0} (n : Net) (rule : Rule T) → IsWired n → (run : List EventPlace) (s : PortState T)
     → PortCounted n s
     → IsPortRun n rule s run → PortCounted n (port_after n rule s run)
 port_counted n rule wired [] s h is = h
@@ -158,7 +159,7 @@ port_counted n rule wired (at ∷ run) s h is =
     port_counted n rule wired run (port_step n rule s at)
     (counted_step n rule wired s at.0 at.1 (coming n s at.0 at.1 is.0) h) is.1
 
-pub port_fits : {T : Type 0} (n : Net) (rule : Rule T) → IsWired n → (run : List Place) (s : PortState T)
+pub port_fits : {T : Type 0} (n : Net) (rule : Rule T) → IsWired n → (run : List EventPlace) (s : PortState T)
     → PortCounted n s
     → IsPortRun n rule s run → (c : ℕ) → length (s.run.queue c) ≤ n.capacity c
     → length ((port_after n rule s run).run.queue c) ≤ n.capacity c
@@ -174,10 +175,10 @@ module _ {T U : Type 0} (n : Net) (s : PortState T) (t : PortState U) (h : PortC
     (same : s.has_come ≡ t.has_come) where
   same_length : (c : ℕ) → length (s.run.queue c) ≡ length (t.run.queue c)
   same_length c =
-      let gets : gets_made n s c ≡ gets_made n t c =
+      let gets : gets_so_far n s c ≡ gets_so_far n t c =
       ap (λ (come : ℕ → ℕ → Bool).
       come_count (is_get c) (come (n.reader c)) (n.script (n.reader c)) (length (n.script (n.reader c)))) same in
-      let puts : puts_made n s c ≡ puts_made n t c =
+      let puts : puts_so_far n s c ≡ puts_so_far n t c =
       ap (λ (come : ℕ → ℕ → Bool).
       come_count (is_put c) (come (n.writer c)) (n.script (n.writer c)) (length (n.script (n.writer c)))) same in
       omega (arith, h.queues c, g.queues c, gets, puts)
@@ -188,7 +189,7 @@ module _ {T U : Type 0} (n : Net) (s : PortState T) (t : PortState U) (h : PortC
   same_can (Some (Fire refs)) = refl
   same_can (Some (Put c)) = ap (λ m. nat_lt m (n.capacity c)) (same_length c)
 
-  pub same_may : (at : Place) (o : Option Event) → may_come n s at o ≡ may_come n t at o
+  pub same_may : (at : EventPlace) (o : Option Event) → may_come n s at o ≡ may_come n t at o
   same_may at None = refl
   same_may at (Some e) =
       ap (λ (come : ℕ → ℕ → Bool).

@@ -17,9 +17,9 @@ use Rattle.net_core.specs.Orders.{EndsAlways}
 use Rattle.net_core.specs.Shape.{is_get, is_put, IsWired}
 use Rattle.net_core.proofs.CutOrder.{advanced_here, advanced_there}
 use Rattle.net_core.proofs.Positions.{enabled_inside, run_cut, run_ends, start_counted}
-use Rattle.port_runs.specs.Ports.{AllHaveCome, IsPortRun, Place, PortState, PortsEndAlways, may_come_at}
+use Rattle.port_runs.specs.Ports.{AllHaveCome, IsPortRun, EventPlace, PortState, PortsEndAlways, may_come_at}
 use Rattle.port_runs.specs.Ports.{port_after, port_reached, port_start, port_step}
-use Rattle.port_runs.specs.Named.{gets_made, made, puts_made}
+use Rattle.port_runs.specs.PortNames.{gets_so_far, event_count, puts_so_far}
 use Rattle.port_runs.proofs.ComeCounts.{count_least}
 use Rattle.port_runs.proofs.DueEvents.{due_from, gets_depend, place_grows, place_here, puts_depend}
 use Rattle.port_runs.proofs.PortSteps.{Coming, coming, made_at, may_from}
@@ -38,7 +38,7 @@ module _ {T : Type 0} (n : Net) (wired : IsWired n) (s : PortState T) (h : PortC
     (inside : IsInside n cut)
     (came : HaveComeTo cut s.has_come) (p : ℕ) (new : s.has_come p (cut p) ≡ false) where
   -- at the other end of a channel there are at least those before the cut
-  least : (kind : Event → Bool) (q : ℕ) → count_by kind (take (cut q) (n.script q)) ≤ made n s kind q
+  least : (kind : Event → Bool) (q : ℕ) → count_by kind (take (cut q) (n.script q)) ≤ event_count n s kind q
   least kind q =
       count_least kind (s.has_come q) (n.script q) (cut q) (inside q) (λ j f lt isf on. came q j lt)
 
@@ -46,12 +46,12 @@ module _ {T : Type 0} (n : Net) (wired : IsWired n) (s : PortState T) (h : PortC
       → can_come n s.run (Some e) ≡ true
   can_from_cut (Get c slot) is on =
       let r : n.reader c ≡ p = wired.get_reader p (cut p) c slot is in
-      let mine : made n s (is_get c) p ≡ count_by (is_get c) (take (cut p) (n.script p)) =
+      let mine : event_count n s (is_get c) p ≡ count_by (is_get c) (take (cut p) (n.script p)) =
       made_at n s p (cut p) (Get c slot) (is_get c) h.ordered is new (λ j f lt isf t. came p j lt)
       (λ f t. gets_depend c f (Get c slot) t (own c)) in
-      let gets : gets_made n s c ≡ gets_at n cut c =
-      subst (λ q. made n s (is_get c) q ≡ count_by (is_get c) (take (cut q) (n.script q))) (sym r) mine in
-      let puts : puts_at n cut c ≤ puts_made n s c = least (is_put c) (n.writer c) in
+      let gets : gets_so_far n s c ≡ gets_at n cut c =
+      subst (λ q. event_count n s (is_get c) q ≡ count_by (is_get c) (take (cut q) (n.script q))) (sym r) mine in
+      let puts : puts_at n cut c ≤ puts_so_far n s c = least (is_put c) (n.writer c) in
       let had : gets_at n cut c < puts_at n cut c = ltb-true _ _ on in
       lt-ltb _ _ (omega (arith, h.queues c, gets, puts, had))
     where
@@ -60,12 +60,12 @@ module _ {T : Type 0} (n : Net) (wired : IsWired n) (s : PortState T) (h : PortC
   can_from_cut (Fire refs) is on = refl
   can_from_cut (Put c) is on =
       let r : n.writer c ≡ p = wired.put_writer p (cut p) c is in
-      let mine : made n s (is_put c) p ≡ count_by (is_put c) (take (cut p) (n.script p)) =
+      let mine : event_count n s (is_put c) p ≡ count_by (is_put c) (take (cut p) (n.script p)) =
       made_at n s p (cut p) (Put c) (is_put c) h.ordered is new (λ j f lt isf t. came p j lt)
       (λ f t. puts_depend c f (Put c) t (own c)) in
-      let puts : puts_made n s c ≡ puts_at n cut c =
-      subst (λ q. made n s (is_put c) q ≡ count_by (is_put c) (take (cut q) (n.script q))) (sym r) mine in
-      let gets : gets_at n cut c ≤ gets_made n s c = least (is_get c) (n.reader c) in
+      let puts : puts_so_far n s c ≡ puts_at n cut c =
+      subst (λ q. event_count n s (is_put c) q ≡ count_by (is_put c) (take (cut q) (n.script q))) (sym r) mine in
+      let gets : gets_at n cut c ≤ gets_so_far n s c = least (is_get c) (n.reader c) in
       let room : puts_at n cut c < gets_at n cut c + n.capacity c = ltb-true _ _ on in
       lt-ltb _ _ (omega (arith, h.queues c, gets, puts, room))
     where
@@ -117,7 +117,7 @@ advanced_come cut come p came on q k lt =
 pub finish : {T : Type 0} (n : Net) (rule : Rule T) → IsWired n → (run : List ℕ) (cut : Cut) (s : PortState T)
     → PortCounted n s
     → IsInside n cut → HaveComeTo cut s.has_come → IsCutRun n cut run
-    → (rest : List Place) × IsPortRun n rule s rest
+    → (rest : List EventPlace) × IsPortRun n rule s rest
     × HaveComeTo (cut_after cut run) (port_after n rule s rest).has_come
 finish n rule wired [] cut s h inside came is = ([], tt, came)
 finish n rule wired (p ∷ run) cut s h inside came is =
@@ -142,7 +142,7 @@ module _ {T : Type 0} (n : Net) (rule : Rule T) (wired : IsWired n) (always : En
   whole = (always.ends [] tt).0
 
   pub ends_from : (s : PortState T) → PortCounted n s
-      → (rest : List Place) × IsPortRun n rule s rest × AllHaveCome n (port_after n rule s rest)
+      → (rest : List EventPlace) × IsPortRun n rule s rest × AllHaveCome n (port_after n rule s rest)
   unfolding whole
   ends_from s h =
       let full = always.ends [] tt in
@@ -153,13 +153,13 @@ module _ {T : Type 0} (n : Net) (rule : Rule T) (wired : IsWired n) (always : En
       finish n rule wired whole opening s h (λ p. omega arith) (λ p k lt. absurd (omega arith)) cuts in
       (rest.0, rest.1, λ p k lt. rest.2 p k (omega (arith, lt, last p)))
 
-  goes_on_from : (s : PortState T) (rest : List Place) → IsPortRun n rule s rest
+  goes_on_from : (s : PortState T) (rest : List EventPlace) → IsPortRun n rule s rest
       → AllHaveCome n (port_after n rule s rest)
-      → AllHaveCome n s ⊎ ((at : Place) × (may_come_at n s at ≡ true))
+      → AllHaveCome n s ⊎ ((at : EventPlace) × (may_come_at n s at ≡ true))
   goes_on_from s [] is all = inl all
   goes_on_from s (at ∷ rest) is all = inr (at, is.0)
 
-  counted_at : (run : List Place) → IsPortRun n rule (port_start n) run → PortCounted n (port_reached n rule run)
+  counted_at : (run : List EventPlace) → IsPortRun n rule (port_start n) run → PortCounted n (port_reached n rule run)
   counted_at run is = port_counted n rule wired run (port_start n) (counts.start_counted n) is
 
   pub ports_end : PortsEndAlways n rule

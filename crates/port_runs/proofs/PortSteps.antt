@@ -12,7 +12,7 @@ use Rattle.net_core.specs.Machine.{Net, Rule, can_come, after_event}
 use Rattle.net_core.specs.Shape.{is_fire, is_get, is_put, IsWired}
 use Rattle.net_core.proofs.TwoSteps.{get_reader, put_writer}
 use Rattle.port_runs.specs.Ports.{PortState, are_dependent, is_due, may_come, may_come_at, port_step, with_place}
-use Rattle.port_runs.specs.Named.{come_count, gets_made, made, puts_made}
+use Rattle.port_runs.specs.PortNames.{come_count, gets_so_far, event_count, puts_so_far}
 use Rattle.port_runs.proofs.DueEvents.{due_before, fire_after, fire_before, place_apart, place_grows, place_here, place_other}
 use Rattle.port_runs.proofs.ComeCounts.{count_here, count_place}
 
@@ -96,7 +96,7 @@ pub made_at : {T : Type 0} (n : Net) (s : PortState T) (p k : ℕ) (e : Event) (
     → slice_get (n.script p) k ≡ Some e → s.has_come p k ≡ false
     → ((j : ℕ) (f : Event) → j < k → slice_get (n.script p) j ≡ Some f → kind f ≡ true → s.has_come p j ≡ true)
     → ((f : Event) → kind f ≡ true → are_dependent f e ≡ true)
-    → made n s kind p ≡ count_by kind (take k (n.script p))
+    → event_count n s kind p ≡ count_by kind (take k (n.script p))
 made_at n s p k e kind ordered is new all depend =
     let inside = slice_get_within (n.script p) k e is in
     count_here kind (s.has_come p) (n.script p) k (omega arith) all none
@@ -115,14 +115,14 @@ made_at n s p k e kind ordered is new all depend =
 pub made_here : {T : Type 0} (n : Net) (s : PortState T) (p k : ℕ) (kind : Event → Bool) → IsOrdered n s.has_come
     → (c : Coming n s p k) → ((f : Event) → kind f ≡ true → are_dependent c.event f ≡ true)
     → ((f : Event) → kind f ≡ true → are_dependent f c.event ≡ true)
-    → made n s kind p ≡ count_by kind (take k (n.script p))
+    → event_count n s kind p ≡ count_by kind (take k (n.script p))
 made_here n s p k kind ordered c after before =
     made_at n s p k c.event kind ordered c.is c.new
     (λ j f lt isf on. due_before (n.script p) (s.has_come p) c.event k c.due j f lt isf (after f on)) before
 
 -- at any event that may come, just the fires before it have come
 pub fires_here : {T : Type 0} (n : Net) (s : PortState T) (p k : ℕ) → IsOrdered n s.has_come → Coming n s p k
-    → made n s is_fire p ≡ count_by is_fire (take k (n.script p))
+    → event_count n s is_fire p ≡ count_by is_fire (take k (n.script p))
 fires_here n s p k ordered c =
     made_here n s p k is_fire ordered c (λ f t. fire_after c.event f t) (λ f t. fire_before f c.event t)
 
@@ -131,23 +131,25 @@ module _ {T : Type 0} (n : Net) (rule : Rule T) (s : PortState T) (p k : ℕ) (c
   abbrev after : PortState T
   after = port_step n rule s (p, k)
 
-  pub made_more : (kind : Event → Bool) → made n after kind p ≡ made n s kind p + cond (kind c.event) 1 0
+  pub made_more : (kind : Event → Bool) → event_count n after kind p ≡ event_count n s kind p + cond (kind c.event) 1 0
   made_more kind =
       count_place kind (s.has_come p) (n.script p) (with_place s.has_come (p, k) p) k c.event c.is c.new
       (λ j same. place_here s.has_come p k p j refl same)
       (λ j other. place_other s.has_come p k p j (λ _ same. other same)) (length (n.script p))
       (slice_get_within (n.script p) k c.event c.is)
 
-  pub made_same : (kind : Event → Bool) (q : ℕ) → (q ≡ p → ⊥) → made n after kind q ≡ made n s kind q
+  pub made_same : (kind : Event → Bool) (q : ℕ) → (q ≡ p → ⊥) → event_count n after kind q ≡ event_count n s kind q
   made_same kind q d =
       ap (λ (come : ℕ → Bool). come_count kind come (n.script q) (length (n.script q)))
       (place_apart s.has_come p k q d)
 
-  pub gets_more : IsWired n → (ch : ℕ) → gets_made n after ch ≡ gets_made n s ch + cond (is_get ch c.event) 1 0
+  pub gets_more : IsWired n → (ch : ℕ) → gets_so_far n after ch ≡ gets_so_far n s ch + cond (is_get ch c.event) 1 0
   gets_more wired ch =
       elim (cases_eq (n.reader ch) p) [
         | inl same ↦
-            subst (λ q. made n after (is_get ch) q ≡ made n s (is_get ch) q + cond (is_get ch c.event) 1 0) (sym same)
+            subst (λ q. event_count n after (is_get ch) q
+            ≡ event_count n s (is_get ch) q + cond (is_get ch c.event) 1 0)
+            (sym same)
             (made_more (is_get ch))
         | inr d ↦
             elim (cases_Bool (is_get ch c.event)) [
@@ -156,11 +158,13 @@ module _ {T : Type 0} (n : Net) (rule : Rule T) (s : PortState T) (p k : ℕ) (c
             ]
       ]
 
-  pub puts_more : IsWired n → (ch : ℕ) → puts_made n after ch ≡ puts_made n s ch + cond (is_put ch c.event) 1 0
+  pub puts_more : IsWired n → (ch : ℕ) → puts_so_far n after ch ≡ puts_so_far n s ch + cond (is_put ch c.event) 1 0
   puts_more wired ch =
       elim (cases_eq (n.writer ch) p) [
         | inl same ↦
-            subst (λ q. made n after (is_put ch) q ≡ made n s (is_put ch) q + cond (is_put ch c.event) 1 0) (sym same)
+            subst (λ q. event_count n after (is_put ch) q
+            ≡ event_count n s (is_put ch) q + cond (is_put ch c.event) 1 0)
+            (sym same)
             (made_more (is_put ch))
         | inr d ↦
             elim (cases_Bool (is_put ch c.event)) [

@@ -3,8 +3,8 @@
 -- Gets and Puts of one channel, Gets of one slot and fires come in the script's order. So the events of a channel that have come are
 -- the first of it, the slots name what they name in the script where just these Gets stand (`come_gets`), and at a fire that may
 -- come they name what the script says there: all Gets before it have come and none behind it (`operands_here`). The invariant is
--- `HoldsNames`: each slot, each kept value and each queue is the list of the values of the tags that it names. A Get keeps it since
--- two Gets that fill different slots may change places (`set_swap`). That events come at all isn't a matter of this file.
+-- `HoldsSlotNames`: each slot, each kept value and each queue is the list of the values of the tags that it names. A Get keeps it
+-- since two Gets that fill different slots may change places (`set_swap`). That events come at all isn't a matter of this file.
 use Rattle.std.proofs.Common.{◌≡◌, ℕ, zero, suc, pred, ◌+◌, ◌<◌, ◌≤◌, Bool, true, false, cond, eqb, Option, Some, None, List}
 use Rattle.std.proofs.Common.{[], ◌∷◌, ◌++◌, length, map, take, drop, slice_get, slice_set, replicate, count_by, option_map}
 use Rattle.std.proofs.Common.{ap, ap₂, sym, subst, ◌∙◌, refl, inl, inr, arith, ltb-true, eq-eqb, eqb-true}
@@ -22,9 +22,9 @@ use Rattle.net_core.specs.Shape.{is_fire, is_get, is_put, IsWired, fires}
 use Rattle.net_core.proofs.PlaceValues.{last_fired, token_full, tokens_length}
 use Rattle.net_core.proofs.Positions.{put_fired}
 use Rattle.plain_data.proofs.Lists.{slice_get_push_at, take-suc_some}
-use Rattle.port_runs.specs.Ports.{AllHaveCome, IsPortRun, Place, PortState, port_after}
+use Rattle.port_runs.specs.Ports.{AllHaveCome, IsPortRun, EventPlace, PortState, port_after}
 use Rattle.port_runs.specs.Ports.{port_reached, port_start, port_step, with_place}
-use Rattle.port_runs.specs.Named.{PortsNamed, gets_made, made, puts_made}
+use Rattle.port_runs.specs.PortNames.{HoldsNames, gets_so_far, event_count, puts_so_far}
 use Rattle.port_runs.proofs.ComeCounts.{count_front, count_zero}
 use Rattle.port_runs.proofs.DueEvents.{due_before, fire_after, fire_before, gets_depend, place_apart, place_here, place_other}
 use Rattle.port_runs.proofs.DueEvents.{puts_depend}
@@ -237,14 +237,14 @@ put_token n c k is =
 
 -- The values
 
-pub record HoldsNames {T : Type 0} (n : Net) (v : Tag → T) (s : PortState T) : Type 0 where
+pub record HoldsSlotNames {T : Type 0} (n : Net) (v : Tag → T) (s : PortState T) : Type 0 where
   pub slots : (p : ℕ) → (s.run.local p).slots ≡ map (option_map v) (come_names n p (s.has_come p))
-  pub kept : (p : ℕ) → (s.run.local p).kept ≡ fired v p (made n s is_fire p)
+  pub kept : (p : ℕ) → (s.run.local p).kept ≡ fired v p (event_count n s is_fire p)
   pub queues : (c : ℕ)
-      → s.run.queue c ≡ map v (drop (gets_made n s c) (take (puts_made n s c) (tokens n c)))
+      → s.run.queue c ≡ map v (drop (gets_so_far n s c) (take (puts_so_far n s c) (tokens n c)))
 
 module _ {T : Type 0} (n : Net) (rule : Rule T) (wired : IsWired n) (v : Tag → T) (gives : GivesValues n rule v)
-    (s : PortState T) (p k : ℕ) (c : Coming n s p k) (h : PortCounted n s) (named : HoldsNames n v s) where
+    (s : PortState T) (p k : ℕ) (c : Coming n s p k) (h : PortCounted n s) (named : HoldsSlotNames n v s) where
   abbrev next : PortState T
   next = port_step n rule s (p, k)
 
@@ -269,27 +269,28 @@ module _ {T : Type 0} (n : Net) (rule : Rule T) (wired : IsWired n) (v : Tag →
       let own : is_get ch c.event ≡ true = ap (is_get ch) same ∙ eq-eqb ch ch refl in
       let r : n.reader ch ≡ p = wired.get_reader p k ch slot is in
       let m = count_by (is_get ch) (take k (n.script p)) in
-      let got : made n s (is_get ch) p ≡ m =
+      let got : event_count n s (is_get ch) p ≡ m =
       made_here n s p k (is_get ch) h.ordered c (λ f t. gets_depend ch c.event f own t)
       (λ f t. gets_depend ch f c.event t own) in
-      let gets : gets_made n s ch ≡ m = ap (made n s (is_get ch)) r ∙ got in
+      let gets : gets_so_far n s ch ≡ m = ap (event_count n s (is_get ch)) r ∙ got in
       let may : can_come n s.run (Some (Get ch slot)) ≡ true =
       ap (λ (f : Event). can_come n s.run (Some f)) (sym same) ∙ c.can in
       let some : 0 < length (s.run.queue ch) = ltb-true _ _ may in
-      let room : gets_made n s ch < puts_made n s ch = omega (arith, some, h.queues ch) in
+      let room : gets_so_far n s ch < puts_so_far n s ch = omega (arith, some, h.queues ch) in
       ap front (named.queues ch)
-      ∙ front_map_drop v (gets_made n s ch) (take (puts_made n s ch) (tokens n ch))
+      ∙ front_map_drop v (gets_so_far n s ch) (take (puts_so_far n s ch) (tokens n ch))
       ∙ ap (option_map v)
-      (get_take (tokens n ch) (puts_made n s ch) (gets_made n s ch) room ∙ ap (slice_get (tokens n ch)) gets)
+      (get_take (tokens n ch) (puts_so_far n s ch) (gets_so_far n s ch) room ∙ ap (slice_get (tokens n ch)) gets)
 
   -- what process p has kept
-  kept_after : (e : Event) → slice_get (n.script p) k ≡ Some e → (f : ℕ) → f ≡ made n s is_fire p + cond (is_fire e) 1 0
+  kept_after : (e : Event) → slice_get (n.script p) k ≡ Some e
+      → (f : ℕ) → f ≡ event_count n s is_fire p + cond (is_fire e) 1 0
       → (local_after rule p mine s.run.queue e).kept ≡ fired v p f
   kept_after (Get ch slot) is f more =
-      let same : made n s is_fire p ≡ f = omega (arith, more) in
+      let same : event_count n s is_fire p ≡ f = omega (arith, more) in
       named.kept p ∙ ap (fired v p) same
   kept_after (Fire refs) is f more =
-      let turn = made n s is_fire p in
+      let turn = event_count n s is_fire p in
       let fire : is_fire c.event ≡ true = ap is_fire (event_is (Fire refs) is) in
       let here : turn ≡ fires n p k = fires_here n s p k h.ordered c in
       let value : rule p (length mine.kept) refs mine.slots ≡ v (tag p turn) =
@@ -298,7 +299,7 @@ module _ {T : Type 0} (n : Net) (rule : Rule T) (wired : IsWired n) (v : Tag →
       let last : suc turn ≡ f = omega (arith, more) in
       ap₂ (λ xs y. xs ++ y ∷ []) (named.kept p) value ∙ ap (fired v p) last
   kept_after (Put ch) is f more =
-      let same : made n s is_fire p ≡ f = omega (arith, more) in
+      let same : event_count n s is_fire p ≡ f = omega (arith, more) in
       named.kept p ∙ ap (fired v p) same
 
   -- what its slots hold
@@ -337,20 +338,20 @@ module _ {T : Type 0} (n : Net) (rule : Rule T) (wired : IsWired n) (v : Tag →
 
   -- the token of a Put
   put_here : (ch : ℕ) → slice_get (n.script p) k ≡ Some (Put ch)
-      → (slice_get (tokens n ch) (puts_made n s ch) ≡ Some (tag p (pred (fires n p k))))
+      → (slice_get (tokens n ch) (puts_so_far n s ch) ≡ Some (tag p (pred (fires n p k))))
       × (last_of mine.kept ≡ v (tag p (pred (fires n p k))) ∷ [])
   put_here ch is =
       let same = event_is (Put ch) is in
       let own : is_put ch c.event ≡ true = ap (is_put ch) same ∙ eq-eqb ch ch refl in
       let r : n.writer ch ≡ p = wired.put_writer p k ch is in
-      let put : made n s (is_put ch) p ≡ count_by (is_put ch) (take k (n.script p)) =
+      let put : event_count n s (is_put ch) p ≡ count_by (is_put ch) (take k (n.script p)) =
       made_here n s p k (is_put ch) h.ordered c (λ f t. puts_depend ch c.event f own t)
       (λ f t. puts_depend ch f c.event t own) in
       let at : slice_get (n.script (n.writer ch)) k ≡ Some (Put ch) = ap (λ q. slice_get (n.script q) k) r ∙ is in
       let token = put_token n ch k at in
-      let here : made n s is_fire p ≡ fires n p k = fires_here n s p k h.ordered c in
+      let here : event_count n s is_fire p ≡ fires n p k = fires_here n s p k h.ordered c in
       let some : 0 < fires n p k = put_fired n wired p k ch c.event c.is own in (
-        ap (slice_get (tokens n ch)) (ap (made n s (is_put ch)) r ∙ put)
+        ap (slice_get (tokens n ch)) (ap (event_count n s (is_put ch)) r ∙ put)
             ∙ subst (λ q. slice_get (tokens n ch) (count_by (is_put ch) (take k (n.script q)))
             ≡ Some (tag q (pred (fires n q k)))) r token,
         ap last_of (named.kept p ∙ ap (fired v p) here) ∙ last_fired v p (fires n p k) some,
@@ -358,51 +359,51 @@ module _ {T : Type 0} (n : Net) (rule : Rule T) (wired : IsWired n) (v : Tag →
 
   -- a queue
   queue_named : (e : Event) → slice_get (n.script p) k ≡ Some e → (ch g u : ℕ)
-      → g ≡ gets_made n s ch + cond (is_get ch e) 1 0
-      → u ≡ puts_made n s ch + cond (is_put ch e) 1 0
+      → g ≡ gets_so_far n s ch + cond (is_get ch e) 1 0
+      → u ≡ puts_so_far n s ch + cond (is_put ch e) 1 0
       → queue_after mine.kept e ch (s.run.queue ch) ≡ map v (drop g (take u (tokens n ch)))
   queue_named (Get d slot) is ch g u gs us =
-      let before = take (puts_made n s ch) (tokens n ch) in
-      let puts : u ≡ puts_made n s ch = omega (arith, us) in
+      let before = take (puts_so_far n s ch) (tokens n ch) in
+      let puts : u ≡ puts_so_far n s ch = omega (arith, us) in
       elim (cases_Bool (eqb ch d)) [
         | inl t ↦
-            let gets : g ≡ gets_made n s ch + 1 = omega (arith, gs, cond-true {A = ℕ} (eqb ch d) 1 0 t) in
+            let gets : g ≡ gets_so_far n s ch + 1 = omega (arith, gs, cond-true {A = ℕ} (eqb ch d) 1 0 t) in
             rw (t, gets, puts, named.queues ch)
-            (drop-map v 1 (drop (gets_made n s ch) before) ∙ ap (map v) (drop-drop 1 (gets_made n s ch) before))
+            (drop-map v 1 (drop (gets_so_far n s ch) before) ∙ ap (map v) (drop-drop 1 (gets_so_far n s ch) before))
         | inr f ↦
-            let gets : g ≡ gets_made n s ch = omega (arith, gs, cond-false {A = ℕ} (eqb ch d) 1 0 f) in
+            let gets : g ≡ gets_so_far n s ch = omega (arith, gs, cond-false {A = ℕ} (eqb ch d) 1 0 f) in
             rw (f, gets, puts) (named.queues ch)
       ]
   queue_named (Fire refs) is ch g u gs us =
-      let gets : g ≡ gets_made n s ch = omega (arith, gs) in
-      let puts : u ≡ puts_made n s ch = omega (arith, us) in
+      let gets : g ≡ gets_so_far n s ch = omega (arith, gs) in
+      let puts : u ≡ puts_so_far n s ch = omega (arith, us) in
       rw (gets, puts) (named.queues ch)
   queue_named (Put d) is ch g u gs us =
-      let gets : g ≡ gets_made n s ch = omega (arith, gs) in
+      let gets : g ≡ gets_so_far n s ch = omega (arith, gs) in
       elim (cases_Bool (eqb ch d)) [
         | inl t ↦
             let here : d ≡ ch = sym (eqb-true ch d t) in
             let at : slice_get (n.script p) k ≡ Some (Put ch) = is ∙ ap (λ i. Some (Put i)) here in
             let new = tag p (pred (fires n p k)) in
             let both = put_here ch at in
-            let puts : u ≡ suc (puts_made n s ch) = omega (arith, us, cond-true {A = ℕ} (eqb ch d) 1 0 t) in
-            let before = take (puts_made n s ch) (tokens n ch) in
-            let room = slice_get_within (tokens n ch) (puts_made n s ch) new both.0 in
-            let long : length before ≡ puts_made n s ch =
-            taken (puts_made n s ch) (tokens n ch) (omega (arith, room)) in
-            let low : gets_made n s ch ≤ length before = omega (arith, long, h.queues ch) in
+            let puts : u ≡ suc (puts_so_far n s ch) = omega (arith, us, cond-true {A = ℕ} (eqb ch d) 1 0 t) in
+            let before = take (puts_so_far n s ch) (tokens n ch) in
+            let room = slice_get_within (tokens n ch) (puts_so_far n s ch) new both.0 in
+            let long : length before ≡ puts_so_far n s ch =
+            taken (puts_so_far n s ch) (tokens n ch) (omega (arith, room)) in
+            let low : gets_so_far n s ch ≤ length before = omega (arith, long, h.queues ch) in
             rw (
               t,
               gets,
               puts,
-              take-suc_some (tokens n ch) (puts_made n s ch) new both.0,
-              drop-append-le (gets_made n s ch) before (new ∷ []) low,
-              map-append v (drop (gets_made n s ch) before) (new ∷ []),
+              take-suc_some (tokens n ch) (puts_so_far n s ch) new both.0,
+              drop-append-le (gets_so_far n s ch) before (new ∷ []) low,
+              map-append v (drop (gets_so_far n s ch) before) (new ∷ []),
               both.1,
               named.queues ch,
             ) refl
         | inr f ↦
-            let puts : u ≡ puts_made n s ch = omega (arith, us, cond-false {A = ℕ} (eqb ch d) 1 0 f) in
+            let puts : u ≡ puts_so_far n s ch = omega (arith, us, cond-false {A = ℕ} (eqb ch d) 1 0 f) in
             rw (f, gets, puts) (named.queues ch)
       ]
     where
@@ -411,7 +412,7 @@ module _ {T : Type 0} (n : Net) (rule : Rule T) (wired : IsWired n) (v : Tag →
       taken (suc m) [] le = absurd (omega arith)
       taken (suc m) (x ∷ xs) le = ap suc (taken m xs (omega arith))
 
-  pub named_step : HoldsNames n v next
+  pub named_step : HoldsSlotNames n v next
   named_step = record {
     slots = λ q.
         elim (cases_eq q p) [
@@ -426,15 +427,16 @@ module _ {T : Type 0} (n : Net) (rule : Rule T) (wired : IsWired n) (v : Tag →
         elim (cases_eq q p) [
           | inl same ↦
               ap (λ (l : Local T). l.kept) (local_here n rule wired s p k c h q same)
-              ∙ kept_after c.event c.is (made n next is_fire p) (made_more n rule s p k c is_fire)
-              ∙ ap (λ r. fired v r (made n next is_fire r)) (sym same)
+              ∙ kept_after c.event c.is (event_count n next is_fire p) (made_more n rule s p k c is_fire)
+              ∙ ap (λ r. fired v r (event_count n next is_fire r)) (sym same)
           | inr d ↦
               ap (λ (l : Local T). l.kept) (local_there n rule wired s p k c h q d) ∙ named.kept q
               ∙ ap (fired v q) (sym (made_same n rule s p k c is_fire q d))
         ];
     queues = λ ch.
         ap (λ (t : State T). t.queue ch) (run_after n rule s p k c)
-        ∙ queue_named c.event c.is ch (gets_made n next ch) (puts_made n next ch) (gets_more n rule s p k c wired ch)
+        ∙ queue_named c.event c.is ch (gets_so_far n next ch) (puts_so_far n next ch)
+        (gets_more n rule s p k c wired ch)
         (puts_more n rule s p k c wired ch);
   }
 
@@ -452,7 +454,7 @@ module _ {T : Type 0} (n : Net) (v : Tag → T) where
   no_values zero = refl
   no_values (suc m) = ap (λ xs. None ∷ xs) (no_values m)
 
-  start_named : HoldsNames n v (port_start n)
+  start_named : HoldsSlotNames n v (port_start n)
   start_named = record {
     slots = λ p.
         no_values (n.slots p)
@@ -466,25 +468,26 @@ module _ {T : Type 0} (n : Net) (v : Tag → T) where
   }
 
 module _ {T : Type 0} (n : Net) (rule : Rule T) (wired : IsWired n) (v : Tag → T) (gives : GivesValues n rule v) where
-  named_run : (run : List Place) (s : PortState T) → PortCounted n s → HoldsNames n v s → IsPortRun n rule s run
-      → HoldsNames n v (port_after n rule s run)
+  named_run : (run : List EventPlace) (s : PortState T) → PortCounted n s → HoldsSlotNames n v s
+      → IsPortRun n rule s run
+      → HoldsSlotNames n v (port_after n rule s run)
   named_run [] s h named is = named
   named_run (at ∷ run) s h named is =
       let c = coming n s at.0 at.1 is.0 in
       named_run run (port_step n rule s at) (counted_step n rule wired s at.0 at.1 c h)
       (named_step n rule wired v gives s at.0 at.1 c h named) is.1
 
-  module _ (run : List Place) (is : IsPortRun n rule (port_start n) run) where
+  module _ (run : List EventPlace) (is : IsPortRun n rule (port_start n) run) where
     abbrev last : PortState T
     last = port_reached n rule run
 
     counted_last : PortCounted n last
     counted_last = port_counted n rule wired run (port_start n) (start_counted n) is
 
-    named_last : HoldsNames n v last
+    named_last : HoldsSlotNames n v last
     named_last = named_run run (port_start n) (start_counted n) (start_named n v) is
 
-    pub ports_named : PortsNamed n v last
+    pub ports_named : HoldsNames n v last
     ports_named = record {
       operands = λ p k refs event on.
           let c = coming n last p k on in

@@ -18,23 +18,23 @@ come_count kind has_come script (suc k) =
     + (if has_come k && option_map_or kind (slice_get script k) false then 1 else 0)
 
 -- how many events of a kind a process has made
-abbrev pub made : {T : Type 0} → Net → PortState T → (Event → Bool) → ℕ → ℕ
-made n s kind p = come_count kind (s.has_come p) (n.script p) (length (n.script p))
+abbrev pub event_count : {T : Type 0} → Net → PortState T → (Event → Bool) → ℕ → ℕ
+event_count n s kind p = come_count kind (s.has_come p) (n.script p) (length (n.script p))
 
 -- the Gets and the Puts of a channel that have come
-abbrev pub gets_made : {T : Type 0} → Net → PortState T → ℕ → ℕ
-gets_made n s c = made n s (is_get c) (n.reader c)
+abbrev pub gets_so_far : {T : Type 0} → Net → PortState T → ℕ → ℕ
+gets_so_far n s c = event_count n s (is_get c) (n.reader c)
 
-abbrev pub puts_made : {T : Type 0} → Net → PortState T → ℕ → ℕ
-puts_made n s c = made n s (is_put c) (n.writer c)
+abbrev pub puts_so_far : {T : Type 0} → Net → PortState T → ℕ → ℕ
+puts_so_far n s c = event_count n s (is_put c) (n.writer c)
 
 -- Each fire finds the values of what its references name, a process has kept those of its fires in order, and a queue holds
 -- those of the tokens that were put and not got. So each channel carries the same tokens in the same order as in every other run.
-pub record PortsNamed {T : Type 0} (n : Net) (v : Tag → T) (s : PortState T) : Type 0 where
+pub record HoldsNames {T : Type 0} (n : Net) (v : Tag → T) (s : PortState T) : Type 0 where
   pub operands : (p k : ℕ) (refs : List Ref) → event_at n (p, k) ≡ Some (Fire refs)
       → may_come_at n s (p, k) ≡ true
       → ((s.run.local p).slots ≡ map (option_map v) (slot_names n p k))
       × (length (s.run.local p).kept ≡ fires n p k)
-  pub kept : (p : ℕ) → (s.run.local p).kept ≡ fired v p (made n s is_fire p)
+  pub kept : (p : ℕ) → (s.run.local p).kept ≡ fired v p (event_count n s is_fire p)
   pub queues : (c : ℕ)
-      → s.run.queue c ≡ map v (drop (gets_made n s c) (take (puts_made n s c) (tokens n c)))
+      → s.run.queue c ≡ map v (drop (gets_so_far n s c) (take (puts_so_far n s c) (tokens n c)))

@@ -10,6 +10,7 @@ use crate::recorder::Recorder;
 use net_core::{Event, Network};
 use std::alloc::AllocError;
 
+// Whether an event is a Fire.
 fn is_fire(event: &Event) -> bool
     ensures fire { IsTrue result → (refs : List Ref) × (event.now ≡ Fire refs) }
     ensures other { IsFalse result → (refs : List Ref) → event.now ≡ Fire refs → ⊥ }
@@ -17,14 +18,15 @@ fn is_fire(event: &Event) -> bool
     matches!(event, Event::Fire { .. })
 }
 
-fn is_put(event: &Event) -> bool
+// Whether an event is a Put, of whichever channel.
+fn is_any_put(event: &Event) -> bool
     ensures put { IsTrue result → (channel : ℕ) × (event.now ≡ Put channel) }
     ensures other { IsFalse result → (events : List Event) → put_length (event.now ∷ events) ≡ 0 }
 {
     matches!(event, Event::Put { .. })
 }
 
-// Lets a process make all its events up to a Fire.
+// Lets a process make its events up to its next Fire and with it, or all that are left where there is none.
 fn make_fire(recorder: &mut Recorder, network: &Network, process: u32) -> Result<(), AllocError>
     requires recorder { IsRecord (net_of network.now) recorder.old }
     requires process { process < length network.now.processes }
@@ -47,7 +49,7 @@ fn make_fire(recorder: &mut Recorder, network: &Network, process: u32) -> Result
     Ok(())
 }
 
-// Lets a process make the Puts that come next.
+// Lets a process make the Puts that stand in front of what is left of its script.
 fn make_puts(recorder: &mut Recorder, network: &Network, process: u32) -> Result<(), AllocError>
     requires recorder { IsRecord (net_of network.now) recorder.old }
     requires process { process < length network.now.processes }
@@ -59,7 +61,7 @@ fn make_puts(recorder: &mut Recorder, network: &Network, process: u32) -> Result
     ensures recorder { OnOk result (IsRecord (net_of network.now) recorder.new) }
 {
     while let Some(event) = recorder.next_event(network, process) {
-        if !is_put(event) {
+        if !is_any_put(event) {
             return Ok(());
         }
         recorder.make_event(network, process)?;
@@ -67,7 +69,7 @@ fn make_puts(recorder: &mut Recorder, network: &Network, process: u32) -> Result
     Ok(())
 }
 
-// Lets a process make the events of its next point: all up to its Fire, and the Puts behind it.
+// Lets a process make the events of its next point: all up to its Fire, that Fire, and the Puts behind it.
 fn make_point(recorder: &mut Recorder, network: &Network, process: u32) -> Result<(), AllocError>
     requires recorder { IsRecord (net_of network.now) recorder.old }
     requires process { process < length network.now.processes }

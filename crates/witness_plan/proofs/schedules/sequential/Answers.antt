@@ -47,7 +47,8 @@ returns-clause-schedule c =
     let n = c.args.nest.now in
     let whole : fires_before c.as_slice-run-items.result.now c.loop-run.run-index ≡ length (trace n) =
     whole_trace n c.as_slice-run-items.result.now c.loop-run.run-index
-    (ap processes_in c.as_slice-run-items.ensures.value ∙ c.in_ok-runs.ensures) (omega (arith, c.loop-run-test.false)) in
+    (ap processes_in c.as_slice-run-items.ensures.value ∙ c.in_ok-runs.ensures)
+    (omega (arith, c.loop-run-test.false)) in
     c.into_witness.ensures.schedule
     ∙ sequenced_all n c.loop-run.recorder.schedule (c.loop-run.invariant.schedule ∙ ap (sequenced n) whole)
 
@@ -56,7 +57,8 @@ returns-clause-capacities c =
     let n = c.args.nest.now in
     let whole : fires_before c.as_slice-run-items.result.now c.loop-run.run-index ≡ length (trace n) =
     whole_trace n c.as_slice-run-items.result.now c.loop-run.run-index
-    (ap processes_in c.as_slice-run-items.ensures.value ∙ c.in_ok-runs.ensures) (omega (arith, c.loop-run-test.false)) in
+    (ap processes_in c.as_slice-run-items.ensures.value ∙ c.in_ok-runs.ensures)
+    (omega (arith, c.loop-run-test.false)) in
     c.into_witness.ensures.capacities ∙ c.loop-run.invariant.recorder.greatest
     ∙ ap (capacities c.args.network.now)
     (sequenced_all n c.loop-run.recorder.schedule (c.loop-run.invariant.schedule ∙ ap (sequenced n) whole))

@@ -25,7 +25,7 @@ loop-event-smaller c =
 pub loop-event-preserved : goal.loop-event-preserved
 loop-event-preserved c =
     let net = net_of c.args.network.now in
-    let put = c.is_put.ensures.put c.if-not-is_put.false in
+    let put = c.is_any_put.ensures.put c.if-not-is_any_put.false in
     record {
       recorder = c.in_ok-make_event.ensures.recorder;
       made = put_made net c.loop-event.recorder.schedule c.make_event.new.self.schedule c.args.process
@@ -41,11 +41,11 @@ returns-clause-schedule c =
     let none = nothing_left net s p (sym c.in_default.ensures) in
     sym (append-nil s) ∙ sym (ap (λ events. s ++ replicate (put_length events) p) none) ∙ c.loop-event.invariant.made
 
-pub returns-then-not-is_put-clause-schedule : goal.returns-then-not-is_put-clause-schedule
-returns-then-not-is_put-clause-schedule c =
+pub returns-then-not-is_any_put-clause-schedule : goal.returns-then-not-is_any_put-clause-schedule
+returns-then-not-is_any_put-clause-schedule c =
     let net = net_of c.args.network.now in
     let p = c.args.process in
     let s = c.loop-event.recorder.schedule in
     let none = no_put_there net s p c.in-Some.event.now (sym c.in-Some.ensures)
-    (c.is_put.ensures.other c.if-not-is_put.true) in
+    (c.is_any_put.ensures.other c.if-not-is_any_put.true) in
     sym (append-nil s) ∙ sym (ap (λ k. s ++ replicate k p) none) ∙ c.loop-event.invariant.made

@@ -300,8 +300,8 @@ fn by_rounds(
     }
 }
 
-// By one cycle that uses order rows behind the candidate's own. Mostly it is one of a subscript's rows, which stand behind those of the
-// domain, and the last order row, so these are looked at first.
+// By one cycle that uses order rows behind the candidate's own. Mostly it is one of a subscript's rows, which stand behind those
+// of the domain, and the last order row, so these are looked at first.
 fn by_orders(
     context: &System,
     search: &mut Search,

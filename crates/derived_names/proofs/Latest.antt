@@ -52,7 +52,8 @@ module _ (n : Net) (p c m x end : ℕ) (is : IsLastInto n p c m x end) where
                   ∙ ap (λ i. Some (Some (c, i))) here
               | inr past ↦
                   let more : m < count_by (is_get c) (take k (n.script p)) = omega (arith, counted, one) in
-                  slice_get-set_other slots slot x new (λ into. is.later k slot below this more (sym into)) ∙ before more
+                  slice_get-set_other slots slot x new (λ into. is.later k slot below this more (sym into))
+                  ∙ before more
             ]
         | inr apart ↦
             let none = ap (λ b. cond {A = ℕ} b 1 0) (ne_eqb c d apart) in

@@ -88,7 +88,8 @@ fire_at rule d p (Some (Fire refs)) = Some (rule p (d.node p).turn refs (d.node 
 fire_at rule d p (Some (Put c)) = None
 
 -- the registers of a node of this sequencer after an event
-abbrev pub registers_after : {T : Type 0} → Sequencer Event → Rule T → Design T → ℕ → Event → Registers T
+abbrev pub registers_after : {T : Type 0} → Sequencer Event → Rule T → Design T → ℕ → Event
+    → Registers T
 registers_after sequencer rule d p (Get c slot) =
     record (d.node p) {
       control = step sequencer (d.node p).control;

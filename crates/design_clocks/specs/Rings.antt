@@ -3,8 +3,8 @@ use Rattle.std.specs.Prelude.{◌≡◌, ◌<◌, ◌≤◌, ◌==◌, ℕ, zero
 use Rattle.net_core.specs.Machine.{Net, Rule}
 use Rattle.design_clocks.specs.Registers.{Controls, after_edges, asks, event_at, token_for, offers}
 
--- The registers of a channel: its places, the number of the place of the oldest token, that of the place for the next one, and how
--- many tokens there are. A place in which no token was put has none.
+-- The registers of a channel: its places, the number of the place of the oldest token, that of the place for the next one, and
+-- how many tokens there are. A place in which no token was put has none.
 pub record Ring (T : Type 0) : Type 0 where
   pub places : List (Option T)
   pub oldest : ℕ
@@ -38,8 +38,8 @@ ring_step capacity gives takes token ring = record {
 
 -- the ring after an edge at which its front is asked for or not, and a token is offered or not
 abbrev pub ring_after : {T : Type 0} → ℕ → Bool → Bool → Option T → Ring T → Ring T
-ring_after capacity asked offers token ring =
-    ring_step capacity (offers && nat_lt ring.count capacity) (asked && nat_lt 0 ring.count) token
+ring_after capacity asks offers token ring =
+    ring_step capacity (offers && nat_lt ring.count capacity) (asks && nat_lt 0 ring.count) token
     ring
 
 -- the place of a token by its number, from the oldest one on

@@ -65,7 +65,8 @@ parts_more parts at i part old before now lt is e f =
     ∙ ap (λ fs. old ++ fs) (sym (map-append process_of some (trace_node part at)) ∙ ap processes_of (sym more))
 
 module _ (body : List Node) (at : List ℤ) (value last : ℤ) (before all : List ℕ)
-    (gone : before ++ processes_of (turn_points (all_points (map trace_node body)) (interval value last) at) ≡ all) where
+    (gone : before ++ processes_of (turn_points (all_points (map trace_node body)) (interval value last) at)
+    ≡ all) where
   -- one turn of a loop more
   pub turn_more : (now : List ℕ) → value ≤ℤ last
       → now ≡ before ++ processes_of (all_points (map trace_node body) (at ++ value ∷ []))
@@ -92,7 +93,8 @@ pub one_run : (s : ℕ) (body : List Node) (first last : ℤ) (at : List ℤ) �
     → processes_of (turn_points (all_points (map trace_node body)) (interval first last) at)
     ≡ replicate (natural (last +ℤ pos 1 -ℤ first)) s
 one_run s body first last at is =
-    ap (λ (parts : List Node). processes_of (turn_points (all_points (map trace_node parts)) (interval first last) at)) is
+    ap (λ (parts : List Node). processes_of (turn_points (all_points (map trace_node parts)) (interval first last) at))
+    is
     ∙ each (interval first last)
     ∙ ap (λ n. replicate n s) (length-counted first (natural (last +ℤ pos 1 -ℤ first)))
   where
@@ -121,7 +123,8 @@ pub before_more : (runs : List FireRun) (i : ℕ) (run : FireRun) → i < length
     → fires_before runs (i + 1) ≡ fires_before runs i + run.count
 before_more runs i run lt is =
     let more : processes_in (take (i + 1) runs) ≡ processes_in (take i runs) ++ fires run =
-    ap processes_in (take_more runs i run lt ∙ ap (λ x. take i runs ++ x ∷ []) (sym is)) ∙ run_added (take i runs) run in
+    ap processes_in (take_more runs i run lt ∙ ap (λ x. take i runs ++ x ∷ []) (sym is))
+    ∙ run_added (take i runs) run in
     ap length more
     ∙ length-append (processes_in (take i runs)) (fires run)
     ∙ ap (λ m. fires_before runs i + m) (length-replicate run.count run.process)
@@ -161,7 +164,8 @@ run_here n runs i run e lt is k below =
     }
 
 -- all fires are the trace
-pub whole_trace : (n : Nest) (runs : List FireRun) (i : ℕ) → processes_in runs ≡ processes_of (trace n) → length runs ≤ i
+pub whole_trace : (n : Nest) (runs : List FireRun) (i : ℕ) → processes_in runs ≡ processes_of (trace n)
+    → length runs ≤ i
     → fires_before runs i ≡ length (trace n)
 whole_trace n runs i e le =
     ap (λ rs. length (processes_in rs)) (take_all i runs le) ∙ ap length e ∙ length-map (trace n) process_of

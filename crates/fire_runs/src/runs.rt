@@ -46,8 +46,8 @@ fn add_parts(parts: &[Node], at: &LoopValues, runs: &mut Vec<FireRun>) -> Result
     requires fit { IsTrue (all_forms_fit parts.now (length at.now)) }
     requires within { IsTrue (parts_within parts.now at.now) }
     ensures { OnOk result
-        (processes_in runs.new.items
-        ≡ processes_in runs.old.items ++ processes_of (all_points (map trace_node parts.now) at.now)) }
+        (processes_in runs.new.items ≡ processes_in runs.old.items
+        ++ processes_of (all_points (map trace_node parts.now) at.now)) }
 {
     for part in parts {
         add_node(part, at, runs)?;
@@ -61,7 +61,8 @@ fn add_node(node: &Node, at: &LoopValues, runs: &mut Vec<FireRun>) -> Result<(),
     requires fits { IsTrue (forms_fit node.now (length at.now)) }
     requires within { IsTrue (node_within node.now at.now) }
     ensures { OnOk result
-        (processes_in runs.new.items ≡ processes_in runs.old.items ++ processes_of (trace_node node.now at.now)) }
+        (processes_in runs.new.items ≡ processes_in runs.old.items
+        ++ processes_of (trace_node node.now at.now)) }
 {
     match node {
         Node::Loop {

@@ -106,7 +106,7 @@ fn all_upper_forms(w: &Writes, graph: &Graph) -> Result<Items<Items<Option<Form>
     Ok(all)
 }
 
-// Whether the context tells that a form is no greater than another, from which it differs.
+// Whether the context tells that a form is no greater than another, from which it differs. Nothing is promised of a yes.
 fn is_no_greater(context: &System, form: &Form, other: &Form) -> Result<bool, AllocError>
     requires context { IsContext context.now }
     requires form { IsSmallForm context.now.vars form.now }
@@ -119,8 +119,9 @@ fn is_no_greater(context: &System, form: &Form, other: &Form) -> Result<bool, Al
     is_known(context, &above)
 }
 
-// A form that is there, with its number, where the first has this number: one than which none of the others is known to be less, so
-// that the choice begins with it. Rows of the order before the read come last, so it is a reader's variable where it can be.
+// A form that is there, with its number, where the first has this number; which one isn't promised. It is one than which none of
+// the others is known to be less, so that the choice begins with it. Rows of the order before the read come last, so it is a
+// reader's variable where it can be.
 fn least_form(
     context: &System,
     forms: &[Option<Form>],
@@ -148,7 +149,7 @@ fn least_form(
     Ok(Some(last))
 }
 
-// The choice of a variable that these forms bound, before any is compared with another.
+// The first choice for a variable that these forms bound: it has no terms yet.
 fn start(w: &Writes, context: &System, forms: &[Option<Form>]) -> Result<Choice, AllocError>
     requires context { IsContext context.now }
     requires forms { AreSmallForms context.now.vars forms.now }

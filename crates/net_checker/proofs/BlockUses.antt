@@ -55,7 +55,8 @@ module _ (net : Net) (p : ℕ) where
       ∙ at_length place.before place.after e
 
   -- the same events under another name
-  abbrev pub place_as : (xs ys : List Event) (gets : List ℕ) (lists : List (List ℕ)) (slots : List (Option (ℕ × ℕ))) → xs ≡ ys
+  abbrev pub place_as : (xs ys : List Event) (gets : List ℕ) (lists : List (List ℕ)) (slots : List (Option (ℕ × ℕ)))
+      → xs ≡ ys
       → IsCollectedBefore net p xs gets lists slots → IsCollectedBefore net p ys gets lists slots
   place_as xs ys gets lists slots same place = record {
     first_gets = place.first_gets;
@@ -104,7 +105,8 @@ module _ (net : Net) (p : ℕ) where
       → IsCollectedBefore net p (part_expansion part) gets' lists' slots'
   before_part parts i part gets gets' lists lists' slots slots' lt is place collected =
       place_inside (parts_expansion parts) (parts_expansion (take i parts)) (part_expansion part)
-      (parts_expansion (drop (suc i) parts)) gets gets' lists lists' slots slots' (parts_around parts i part lt is) place
+      (parts_expansion (drop (suc i) parts)) gets gets' lists lists' slots slots' (parts_around parts i part lt is)
+      place
       collected
 
   -- before a copy, where the copies before it are passed

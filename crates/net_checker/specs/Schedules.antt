@@ -14,7 +14,9 @@ abbrev pub entries_in : Schedule → List ℕ
 entries_in (Listed entries) = entries.now
 entries_in (Folded script) = script.now
 
--- from the first state on none of these entries is refused, whatever its number is, and all together lead to the second
-pub record LeadsTo (n : Nest) (net : Net) (entries : List ℕ) (before after : TagState) : Type 0 where
+-- from the first state on none of these entries is refused, whatever its number is, and all together
+-- lead to the second
+pub record LeadsTo (n : Nest) (net : Net) (entries : List ℕ) (before after : TagState)
+    : Type 0 where
   pub fine : (i : ℕ) → entries_refusal n net (cut_in before) i entries ≡ None
   pub cut : cut_in after ≡ cut_after (cut_in before) entries

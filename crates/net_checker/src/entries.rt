@@ -332,6 +332,7 @@ fn step_over_parts(
     Ok(true)
 }
 
+// The same of one part.
 #[cycle(stepping)]
 fn step_over_part(
     nest: &Nest,

@@ -26,8 +26,8 @@ fn line_through(value: i64, next: i64) -> Option<Line>
     }
 }
 
-/// The form's values along the innermost loop from its first turn on, if its step is small and the first two need no number of more
-/// than 64 bits. These are the values of the loops round it.
+/// The form's values along the innermost loop from its first turn on, if its step is small and the first two need no number of
+/// more than 64 bits. These are the values of the loops round it.
 pub(crate) fn line_of(form: &KeptForm, outer: &[i64], first: i64) -> Option<Line>
     requires { length outer.now < 6 }
     ensures { IfSome result

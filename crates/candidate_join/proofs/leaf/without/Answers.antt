@@ -22,7 +22,8 @@ carried_behind-requires-clause-fit c =
     let at = absent_at c.args.absence.now in
     carry_fits (c.as_slice-rows.result.now ++ own_sums c.args.here c.len-further.result) c.as_slice.result.now
     (omega (arith, ap weight c.as_slice.ensures, light_terms a.0 a.1 a.3 c.args.absence.now a.2))
-    (subst (λ rows. AreLightSums (2 ^ 26) (rows ++ own_sums c.args.here c.len-further.result)) (sym c.as_slice-rows.ensures)
+    (subst (λ rows. AreLightSums (2 ^ 26) (rows ++ own_sums c.args.here c.len-further.result))
+    (sym c.as_slice-rows.ensures)
     (light_places a.0 a.1 at a.2 c.args.here c.len-further.result))
 
 pub returns-clause-alone : goal.returns-clause-alone

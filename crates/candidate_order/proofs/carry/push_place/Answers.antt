@@ -12,7 +12,8 @@ pub append_place-requires : goal.append_place-requires
 append_place-requires c =
     record {
       fit = subst (ProductsFit c.args.by)
-          (placed_left c.args.rows.now (own_sums c.args.here c.args.further) c.args.row (omega (arith, c.if-at-rows, c.len.ensures)))
+          (placed_left c.args.rows.now (own_sums c.args.here c.args.further) c.args.row
+          (omega (arith, c.if-at-rows, c.len.ensures)))
           c.requires.fit;
     }
 

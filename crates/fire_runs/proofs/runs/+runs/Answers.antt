@@ -50,7 +50,8 @@ add_node-add_turns-requires t c =
     ap₂ (λ l u. loop_values l u c.in-Loop.step c.args.at.now) (sym c.as_slice.ensures) (sym c.as_slice-in-Loop.ensures)
     ∙ values in
     let range = c.in-Some.ensures in
-    let fit = loop_fits _ _ _ _ _ (length at) (sym (ap (λ x. forms_fit x (length at)) c.in-Loop.is) ∙ c.requires.fits) in
+    let fit = loop_fits _ _ _ _ _ (length at)
+    (sym (ap (λ x. forms_fit x (length at)) c.in-Loop.is) ∙ c.requires.fits) in
     let turns = loop_turns_within _ _ _ _ _ at (sym (ap (λ x. node_within x at) c.in-Loop.is) ∙ c.requires.within) in
     let inner = ap (λ ps. turns_within ps at (interval c.in-Some.first c.in-Some.last)) c.as_slice-body.ensures
     ∙ sym (ap (turns_within c.in-Loop.body at) bounds) ∙ turns in (
@@ -98,7 +99,9 @@ add_turns-returns-in-Some t c =
     let fires =
     ap (λ n. replicate n c.in-Some.process) count
     ∙ sym (one_run c.in-Some.process c.args.body.now c.args.first c.args.last c.args.at.now c.in-Some.ensures) in
-    subst (λ fs. OnOk c.add_run.result (processes_in c.add_run.new.runs.items ≡ processes_in c.args.runs.now.items ++ fs)) fires
+    subst (λ fs. OnOk c.add_run.result
+    (processes_in c.add_run.new.runs.items ≡ processes_in c.args.runs.now.items ++ fs))
+    fires
     c.add_run.ensures
 
 pub add_turns-add_parts-requires : goal.add_turns-add_parts-requires
@@ -154,7 +157,8 @@ add_turns-returns-in_ok-add_parts t c =
     ∙ ap (λ at. processes_in c.loop-value.runs.items
     ++ processes_of (all_points (map trace_node c.args.body.now) at)) inner) in
     simp to_z-of_z at
-    (turns_done c.args.body.now c.args.at.now (to_z w64 c.loop-value.value-bits +ℤ pos 1) (to_z w64 (of_z w64 c.args.last))
+    (turns_done c.args.body.now c.args.at.now (to_z w64 c.loop-value.value-bits +ℤ pos 1)
+    (to_z w64 (of_z w64 c.args.last))
     (processes_in c.add_parts.new.runs.items)
     (processes_in c.args.runs.now.items
     ++ processes_of (turn_points (all_points (map trace_node c.args.body.now))

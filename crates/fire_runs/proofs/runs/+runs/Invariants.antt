@@ -15,7 +15,8 @@ invariant-add_parts-loop-part l =
 -- the fires of the turns before this one were added
 abbrev pub invariant-add_turns-loop-value : goal.invariant-add_turns-loop-value
 invariant-add_turns-loop-value l =
-    (processes_in l.runs.items ++ processes_of (turn_points (all_points (map trace_node l.body)) (interval l.value l.last) l.at)
+    (processes_in l.runs.items ++ processes_of (turn_points (all_points (map trace_node l.body))
+    (interval l.value l.last) l.at)
     ≡ processes_in l.initial.runs.items
     ++ processes_of (turn_points (all_points (map trace_node l.body)) (interval l.first l.last) l.at))
     × (l.first ≤ℤ l.value)

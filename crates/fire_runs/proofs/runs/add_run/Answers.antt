@@ -7,4 +7,5 @@ use Rattle.fire_runs.proofs.runs.add_run.Goals as goal
 pub returns : goal.returns
 returns c =
     ap processes_in c.in_ok-push.ensures.items
-    ∙ run_added c.args.runs.now.items (let run : FireRun = record { process = c.args.process; count = c.args.count } in run)
+    ∙ run_added c.args.runs.now.items
+    (let run : FireRun = record { process = c.args.process; count = c.args.count } in run)

@@ -13,6 +13,7 @@ pub returns : goal.returns
 unfolding trace
 returns c =
     c.in_ok-add_parts.ensures
-    ∙ ap (λ fs. fs ++ processes_of (all_points (map trace_node c.parts.result.now) c.empty.result)) (ap processes_in c.new-runs.ensures.items)
+    ∙ ap (λ fs. fs ++ processes_of (all_points (map trace_node c.parts.result.now) c.empty.result))
+    (ap processes_in c.new-runs.ensures.items)
     ∙ ap (λ ps. processes_of (all_points (map trace_node ps) c.empty.result)) c.parts.ensures.value
     ∙ ap (λ at. processes_of (all_points (map trace_node c.args.nest.now.body) at)) c.empty.ensures

@@ -17,7 +17,8 @@ use Rattle.row_sums.proofs.Within.{IsWithin-weaker}
 
 without : (context : System) (cycles : List Cycle) → cycles ≡ [] → context ≡ with_cycles context cycles
 without context cycles none =
-    ap (λ (rows : List Form). record context { rows = rows }) (sym (append-nil context.rows)) ∙ ap (with_cycles context) (sym none)
+    ap (λ (rows : List Form). record context { rows = rows }) (sym (append-nil context.rows))
+    ∙ ap (with_cycles context) (sym none)
 
 behind : (context more : System) (cycles rest : List Cycle) (cycle : Cycle) → cycles ≡ cycle ∷ rest
     → more ≡ record context { rows = context.rows ++ cycle.form ∷ [] }

@@ -13,4 +13,5 @@ returns c =
     c.in_ok-second.second c.in_ok-value.value c.in_ok-next.next c.line_through.result first value
     (c.as_slice.ensures.value ∙ simp to_z-of_z at c.extended-here.ensures)
     (c.as_slice-2.ensures.value ∙ simp to_z-of_z at c.extended-there.ensures)
-    (simp to_z-of_z at c.in_ok-second.ensures).1 c.in_ok-value.ensures c.in_ok-next.ensures (simp to_z-of_z at c.line_through.ensures)
+    (simp to_z-of_z at c.in_ok-second.ensures).1 c.in_ok-value.ensures c.in_ok-next.ensures
+    (simp to_z-of_z at c.line_through.ensures)

@@ -7,7 +7,8 @@ use Rattle.net_checker.proofs.tag_state.TagState.can_get.Goals as goal
 
 pub has_token-requires-clause-channel : goal.has_token-requires-clause-channel
 has_token-requires-clause-channel c =
-    c.requires.state.progress.wired.get_channel c.args.process (cut_in c.args.self.now c.args.process) _ _ c.requires.next
+    c.requires.state.progress.wired.get_channel c.args.process (cut_in c.args.self.now c.args.process) _ _
+    c.requires.next
 
 pub returns : goal.returns
 returns c =

@@ -7,12 +7,14 @@ use Rattle.net_checker.proofs.tag_state.TagState.step_fire.Goals as goal
 
 pub make_event-requires-clause-process : goal.make_event-requires-clause-process
 make_event-requires-clause-process c =
-    enabled_process (net_of c.args.network.now) c.args.self.now c.requires.state c.args.process (fire_enabled (net_of c.args.network.now) c.args.self.now
+    enabled_process (net_of c.args.network.now) c.args.self.now c.requires.state c.args.process
+    (fire_enabled (net_of c.args.network.now) c.args.self.now
     c.requires.state c.args.process _ c.requires.next.1)
 
 pub make_event-requires-clause-left : goal.make_event-requires-clause-left
 make_event-requires-clause-left c =
-    enabled_left (net_of c.args.network.now) c.args.self.now c.requires.state c.args.process (fire_enabled (net_of c.args.network.now) c.args.self.now
+    enabled_left (net_of c.args.network.now) c.args.self.now c.requires.state c.args.process
+    (fire_enabled (net_of c.args.network.now) c.args.self.now
     c.requires.state c.args.process _ c.requires.next.1)
 
 pub fire-requires-clause-process : goal.fire-requires-clause-process

@@ -9,7 +9,7 @@ use Rattle.std.proofs.lemmas.List.{append-nil, length-map, map-append}
 use Rattle.std.proofs.lemmas.Simd.{map-map}
 use Rattle.affine_core.specs.declared.form.Form.{Form}
 use Rattle.int_polyhedra.specs.declared.system.Proof.{Proof}
-use Rattle.last_writer.specs.Leaves.{after_orders, cell_count, context_of, fact_context, own_context, own_order_system, HasFacts}
+use Rattle.last_writer.specs.Leaves.{after_orders, domain_cell_rows, context_of, fact_context, own_context, own_order_system, HasFacts}
 use Rattle.last_writer.specs.Leaves.{IsAnswered, IsAtLeaf, IsJoinedBelow, IsLeafBelow, IsWithoutFacts}
 use Rattle.last_writer.specs.declared.leaves.Answered.{Answered}
 use Rattle.last_writer.specs.declared.writers.Writer.{Writer}
@@ -140,7 +140,7 @@ order_away w here k rest order proof own h at long refuted =
 -- those of a write, and order rows
 pub write_away : (w : Answered) (here k : ℕ) (rest order : List RowExpr) (x : Writer) (proof own : Proof)
     → length (write_of x.strides).access.subscripts ≡ length (read_of x.strides).access.subscripts
-    → IsWithoutFacts w here (cell_count (write_of x.strides) + k) proof own → IsAtLeaf w here rest → length order ≡ k
+    → IsWithoutFacts w here (domain_cell_rows (write_of x.strides) + k) proof own → IsAtLeaf w here rest → length order ≡ k
     → IsRefuted (own_system x.strides (fact_context w rest) order) proof
     → IsRefuted (own_order_system w rest x order) own
 write_away w here k rest order x proof own even h at long refuted =
@@ -150,7 +150,7 @@ write_away w here k rest order x proof own even h at long refuted =
     let place : List Form = writer_place (context_of w) u in
     let domain : List RowExpr = domain_rows u.statement.rows place in
     let cells : List RowExpr = cell_rows u.access.subscripts r.access.subscripts place in
-    let count : length ((domain ++ cells) ++ order) ≡ cell_count u + k = omega (
+    let count : length ((domain ++ cells) ++ order) ≡ domain_cell_rows u + k = omega (
       arith,
       length-append (domain ++ cells) order,
       length-append domain cells,

@@ -26,6 +26,7 @@ abbrev pub weight : List Term → ℕ
 weight [] = 0
 weight (t ∷ ts) = unsigned_abs t.times + weight ts
 
+-- each term so many times
 abbrev pub term_products : ℤ → List Term → List Term
 term_products by ts = map (λ t. record { row = t.row; times = t.times *ℤ by }) ts
 

@@ -17,6 +17,13 @@ append_place-requires c =
           c.requires.fit;
     }
 
+pub returns-then-at-rows : goal.returns-then-at-rows
+returns-then-at-rows c =
+    on_ok_weaker c.append_place.result
+    (λ is. is ∙ ap (λ ts. c.args.out.now ++ term_products c.args.by ts)
+    (sym (placed_left c.args.rows.now (own_sums c.args.here c.args.further) c.args.row
+    (omega (arith, c.if-at-rows, c.len.ensures))))) c.append_place.ensures
+
 pub returns-then-behind-further : goal.returns-then-behind-further
 returns-then-behind-further c =
     let rows = c.args.rows.now in

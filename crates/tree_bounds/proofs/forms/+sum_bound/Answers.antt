@@ -6,7 +6,7 @@ use Rattle.tree_bounds.proofs.Sums.{sum_more, sum_outside}
 use Rattle.tree_bounds.proofs.forms.+sum_bound.Goals as goal
 
 pub returns-then-size-LEAST_OUTSIDE : goal.returns-then-size-LEAST_OUTSIDE
-returns-then-size-LEAST_OUTSIDE t c = λ short. omega (arith, short, c.if-size-LEAST_OUTSIDE.true)
+returns-then-size-LEAST_OUTSIDE t c = λ short. omega (arith, short, c.if-size-LEAST_OUTSIDE)
 
 pub returns-in_err-product : goal.returns-in_err-product
 returns-in_err-product t c =

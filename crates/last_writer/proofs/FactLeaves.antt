@@ -140,7 +140,8 @@ order_away w here k rest order proof own h at long refuted =
 -- those of a write, and order rows
 pub write_away : (w : Answered) (here k : ℕ) (rest order : List RowExpr) (x : Writer) (proof own : Proof)
     → length (write_of x.strides).access.subscripts ≡ length (read_of x.strides).access.subscripts
-    → IsWithoutFacts w here (domain_cell_rows (write_of x.strides) + k) proof own → IsAtLeaf w here rest → length order ≡ k
+    → IsWithoutFacts w here (domain_cell_rows (write_of x.strides) + k) proof own → IsAtLeaf w here rest
+    → length order ≡ k
     → IsRefuted (own_system x.strides (fact_context w rest) order) proof
     → IsRefuted (own_order_system w rest x order) own
 write_away w here k rest order x proof own even h at long refuted =

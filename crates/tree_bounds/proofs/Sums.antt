@@ -76,10 +76,13 @@ sum_more size c cs whole limit next r first is rest =
     ∙ ap (λ (next : ℕ). greatest_sum limit next cs) (sym is))) rest
 
 -- where one product or sum leaves the numbers of 128 bits, the greatest sum does
-pub sum_outside : (size : ℕ) (c : ℤ) (cs whole : List ℤ) (limit : ℕ) → whole ≡ c ∷ cs
-    → 2 ^ 127 ≤ size + unsigned_abs c * limit → greatest_sum limit size whole < 2 ^ 127 → ⊥
-sum_outside size c cs whole limit first far short =
-    omega (arith, ap (greatest_sum limit size) first, first_added size c cs limit, far, short)
+pub sum_outside : (size : ℕ) (c : ℤ) (cs whole : List ℤ) (limit : ℕ) (r : Option ℕ) → r ≡ None → whole ≡ c ∷ cs
+    → 2 ^ 127 ≤ size + unsigned_abs c * limit
+    → SomeIff r (greatest_sum limit size whole < 2 ^ 127) (greatest_sum limit size whole)
+sum_outside size c cs whole limit r none first far =
+    subst (λ (r : Option ℕ). SomeIff r (greatest_sum limit size whole < 2 ^ 127) (greatest_sum limit size whole))
+    (sym none)
+    (λ short. omega (arith, ap (greatest_sum limit size) first, first_added size c cs limit, far, short))
 
 -- a form's value is within its greatest size
 pub size_is_bound : (form : Form) (limit : ℕ) (r : Option ℕ)

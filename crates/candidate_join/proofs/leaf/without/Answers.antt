@@ -1,6 +1,6 @@
 -- The terms of a candidate without a point refute that it writes the cell. They are carried to the joined system, where
 -- the rows of its own context have terms in their places and the rows on the point stand behind the joined context.
-use Rattle.std.proofs.Common.{◌≡◌, ◌∷◌, ◌++◌, [], ◌^◌, length, refl, ap, ◌∙◌, sym, subst, arith}
+use Rattle.std.proofs.Common.{◌∷◌, ◌++◌, [], ◌^◌, length, refl, ap, ◌∙◌, sym, subst, arith}
 use Rattle.int_polyhedra.specs.declared.system.Proof.TheVariants.{Sum}
 use Rattle.candidate_order.specs.Positions.{own_sums}
 use Rattle.candidate_order.specs.Seen.{absent_at}

@@ -1,4 +1,4 @@
-use Rattle.std.proofs.Common.{◌≡◌, ◌≤◌, ◌<◌, sym, ◌∙◌, arith}
+use Rattle.std.proofs.Common.{sym, ◌∙◌, arith}
 use Rattle.stride_rows.proofs.Behind.{number_behind, number_kept}
 use Rattle.stride_rows.proofs.cuts.number_of.Goals as goal
 

@@ -46,8 +46,8 @@ leaf-requires-clause-end c =
     let s = c.state_of-state.result in
     subst (IsEnd s) (sym c.as_slice.ensures) (subst (IsChoice s) c.in-End.is c.in_ok-choice.ensures)
 
-pub returns-in_ok-tree-in-End : goal.returns-in_ok-tree-in-End
-returns-in_ok-tree-in-End c =
+pub returns-in-End : goal.returns-in-End
+returns-in-End c =
     let task = c.args.task.now in
     let walk = c.args.walk.now in
     let s = c.state_of-state.ensures in

@@ -108,7 +108,7 @@ last_short (x ∷ []) = omega arith
 last_short (x ∷ (y ∷ ys)) = last_short (y ∷ ys)
 
 -- how an event changes the length of a queue
-length_queue_after : {T : Type 0} (n : Net) (s : State T) (kept : List T) (e : Event) (c : ℕ)
+pub length_queue_after : {T : Type 0} (n : Net) (s : State T) (kept : List T) (e : Event) (c : ℕ)
     → can_come n s (Some e) ≡ true → (is_put c e ≡ true → 0 < length kept)
     → length (queue_after kept e c (s.queue c)) + cond (is_get c e) 1 0 ≡ length (s.queue c) + cond (is_put c e) 1 0
 length_queue_after n s kept (Get d slot) c h some =
@@ -126,7 +126,7 @@ length_queue_after n s kept (Put d) c h some =
       | inr f ↦ rw f refl
     ]
 
-local_after_kept : {T : Type 0} (rule : Rule T) (p : ℕ) (l : Local T) (queue : ℕ → List T) (e : Event)
+pub local_after_kept : {T : Type 0} (rule : Rule T) (p : ℕ) (l : Local T) (queue : ℕ → List T) (e : Event)
     → length (local_after rule p l queue e).kept ≡ length l.kept + cond (is_fire e) 1 0
 local_after_kept rule p l queue (Get c slot) = omega arith
 local_after_kept rule p l queue (Fire refs) = length-append l.kept (rule p (length l.kept) refs l.slots ∷ [])

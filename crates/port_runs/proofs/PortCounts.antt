@@ -5,14 +5,14 @@
 -- Put comes behind a fire. So which events may come is a matter of those that have come, whatever fires give (`same_may`).
 use Rattle.std.proofs.Common.{◌≡◌, ℕ, ◌+◌, ◌<◌, ◌≤◌, Bool, true, not, ◌&&◌, cond, eqb, Option, Some, None}
 use Rattle.std.proofs.Common.{List, [], ◌∷◌, length, ap, sym, ◌∙◌, refl, inl, inr}
-use Rattle.std.proofs.Common.{arith, length-append, length-drop, ltb-true, eqb-true, nat_lt}
+use Rattle.std.proofs.Common.{arith, length-append, ltb-true, eqb-true, nat_lt}
 use Rattle.std.proofs.lemmas.Bool.{cases_Bool, cases_eq}
 use Rattle.net_core.specs.declared.network.Event.{Event}
 use Rattle.net_core.specs.declared.network.Event.TheVariants.{Get, Fire, Put}
 use Rattle.net_core.specs.Machine.{Net, Local, Rule, State, can_come, last_of, local_after, queue_after}
 use Rattle.net_core.specs.Shape.{is_fire, is_get, is_put, IsWired}
 use Rattle.net_core.proofs.EventCounts.{replaced_same, replaced_other}
-use Rattle.net_core.proofs.Positions.{last_short, put_fired}
+use Rattle.net_core.proofs.Positions.{last_short, length_queue_after, local_after_kept, put_fired}
 use Rattle.net_core.proofs.TwoSteps.{shrinks}
 use Rattle.port_runs.specs.Ports.{IsPortRun, EventPlace, PortState, is_due, may_come, port_after}
 use Rattle.port_runs.specs.Ports.{port_start, port_step}
@@ -35,36 +35,6 @@ start_counted n = record {
       omega arith;
   kept = λ p. sym (count_zero is_fire (n.script p) (length (n.script p)));
 }
-
-last_one : {T : Type 0} (xs : List T) → 0 < length xs → length (last_of xs) ≡ 1
-last_one [] h = absurd (omega arith)
-last_one (x ∷ []) h = refl
-last_one (x ∷ (y ∷ ys)) h = last_one (y ∷ ys) (omega arith)
-
--- how an event changes the length of a queue
-pub length_queue_after : {T : Type 0} (n : Net) (s : State T) (kept : List T) (e : Event) (c : ℕ)
-    → can_come n s (Some e) ≡ true → (is_put c e ≡ true → 0 < length kept)
-    → length (queue_after kept e c (s.queue c)) + cond (is_get c e) 1 0 ≡ length (s.queue c) + cond (is_put c e) 1 0
-length_queue_after n s kept (Get d slot) c h some =
-    elim (cases_Bool (eqb c d)) [
-      | inl t ↦
-          let here : c ≡ d = eqb-true c d t in
-          let had : 0 < length (s.queue c) = rw here (ltb-true _ _ h) in
-          rw t (omega (arith, length-drop 1 (s.queue c)))
-      | inr f ↦ rw f refl
-    ]
-length_queue_after n s kept (Fire refs) c h some = refl
-length_queue_after n s kept (Put d) c h some =
-    elim (cases_Bool (eqb c d)) [
-      | inl t ↦ rw t (omega (arith, length-append (s.queue c) (last_of kept), last_one kept (some t)))
-      | inr f ↦ rw f refl
-    ]
-
-local_after_kept : {T : Type 0} (rule : Rule T) (p : ℕ) (l : Local T) (queue : ℕ → List T) (e : Event)
-    → length (local_after rule p l queue e).kept ≡ length l.kept + cond (is_fire e) 1 0
-local_after_kept rule p l queue (Get c slot) = omega arith
-local_after_kept rule p l queue (Fire refs) = length-append l.kept (rule p (length l.kept) refs l.slots ∷ [])
-local_after_kept rule p l queue (Put c) = omega arith
 
 module _ {T : Type 0} (n : Net) (rule : Rule T) (wired : IsWired n) (s : PortState T) (p k : ℕ) (c : Coming n s p k)
     (h : PortCounted n s) where

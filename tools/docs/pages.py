@@ -53,7 +53,7 @@ WIDTH = 138
 
 # Definitions that those which contracts cite are made of, and that carry their meaning.
 ALSO = """
-difference_graphs.Joint.IsCheckedForAll candidate_order.Reads.pairs_of candidate_order.Reads.pair_in cap_trim.Capacities.least_capacity
+tree_graphs.Joint.IsCheckedForAll tree_order.Reads.pairs_of tree_order.Reads.pair_in cap_trim.Capacities.least_capacity
 cap_trim.Capacities.trimmed_network_below cap_trim.Capacities.capacity_list cap_trim.Rests.least_run_from cert_text.CertText.IsInRangeOf
 cert_text.CertText.folded_text cert_text.Folding.Folded cert_text.Folding.cert_of cert_text.Folding.network_of cert_text.StandsFor.IsShort
 cert_text.Stretches.stretch_blocks channel_plan.Tokens.is_used channel_plan.Tokens.turns_used channel_plan.Tokens.uses_of
@@ -62,7 +62,7 @@ call_endings.Endings.EndsBy call_endings.Reads.ReadsTo compaan_top.Commands.read
 call_endings.Complaints.refusal_status compaan_top.Headline.HasFittingCertificate compaan_top.Headline.HasSoundCertificate
 compaan_top.Headline.IsAcceptable compaan_top.Laws.IsDone compaan_top.Laws.IsValid compaan_top.Outcome.IsOutcome compaan_top.Told.ComesTo
 compaan_top.Told.IsTold deps_text.Dependences.HasTree
-deps_text.DepsText.TellsDependences difference_graphs.Systems.later_systems difference_graphs.Systems.none_systems difference_graphs.Systems.place_systems
+deps_text.DepsText.TellsDependences tree_graphs.Systems.later_systems tree_graphs.Systems.none_systems tree_graphs.Systems.place_systems
 loop_bind.Judging.judged loop_bind.Parts.part_made loop_bind.Reasons.least_from loop_bind.Values.valued loop_grammar.Grammar.Derives
 loop_lex.Lexical.is_separator loop_lex.Lexical.is_token loop_lex.Tokens.longest loop_print.Numbers.without_token_numbers
 net_checker.Sources.AreUsable net_checker.Sources.IsUsable net_core.Cuts.IsLegal net_core.Names.name_at

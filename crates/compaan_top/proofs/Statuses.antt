@@ -62,7 +62,7 @@ use Rattle.node_automata.specs.declared.node.NodeAuto.{NodeAuto}
 use Rattle.process_derive.specs.Derived.{net}
 use Rattle.source_tree.specs.Sources.{sources_of}
 use Rattle.source_tree.specs.Systems.{Occurrence, writes_from}
-use Rattle.stride_rows.specs.Class.{IsInStrideClass, stride_count, writes_strides}
+use Rattle.tree_cuts.specs.Class.{IsInStrideClass, stride_count, writes_strides}
 use Rattle.vhdl_text.specs.Refusal.{first_too_long}
 use Rattle.witness_plan.specs.Sequential.{sequential_schedule}
 use Rattle.command_answers.specs.Describing as describe

@@ -8,7 +8,7 @@ use Rattle.source_tree.specs.Exact.{IsExact}
 use Rattle.source_tree.specs.declared.cert.Origin.{Origin}
 use Rattle.source_tree.specs.declared.cert.Origin.TheVariants.{Sweep, Tree}
 use Rattle.deps_text.specs.declared.dependence.Dependence.{Dependence}
-use Rattle.stride_rows.specs.Class.{IsInStrideClass}
+use Rattle.tree_cuts.specs.Class.{IsInStrideClass}
 
 -- the reads that have a tree: those of the stride class
 abbrev pub HasTree : Nest → ℕ → ℕ → Type 0

@@ -22,8 +22,8 @@ use Rattle.source_tree.specs.Systems.{Context, Occurrence, after_systems, dead_s
 use Rattle.source_tree.specs.Systems.{with_rows, writer_place}
 use Rattle.source_tree.specs.declared.tree.Tree.{Tree}
 use Rattle.source_tree.proofs.RowLists.{length-cell_rows, length-domain_rows}
-use Rattle.stride_rows.specs.Cuts.{AddRows}
-use Rattle.stride_rows.specs.declared.cuts.Cut.{Cut}
+use Rattle.tree_cuts.specs.Cuts.{AddRows}
+use Rattle.tree_cuts.specs.declared.cuts.Cut.{Cut}
 use Rattle.stride_trees.specs.Contexts.{last_system, outside_cell_systems, own_system}
 use Rattle.stride_trees.specs.Strides.{read_of, write_of, IsSmallContext}
 use Rattle.stride_trees.proofs.Lists.{forms_count}

@@ -16,13 +16,13 @@ use Rattle.std.proofs.lemmas.List.Sums.{sum_by-cons, length-filter, count_by-le-
 use Rattle.std.proofs.lemmas.Option.{same_Some, slice_get_within}
 use Rattle.affine_core.specs.declared.form.Form.{Form}
 use Rattle.affine_core.specs.Affine.{widened_form}
-use Rattle.difference_graphs.specs.Contexts.{IsMadeAs}
-use Rattle.difference_graphs.specs.Joint.{IsCheckedForAll}
-use Rattle.candidate_order.specs.Reads.{IsJoinedTree}
-use Rattle.candidate_order.specs.Reads.{pair_in, pairs_of as pairs_of_read, pairs_with, IsJoined, StandsInLoopsOf}
-use Rattle.difference_graphs.specs.Joint.{ReadAndWrite}
-use Rattle.candidate_order.specs.declared.candidates.Problem.{Problem}
-use Rattle.candidate_order.specs.declared.candidates.Read.{Read}
+use Rattle.tree_graphs.specs.Contexts.{IsMadeAs}
+use Rattle.tree_graphs.specs.Joint.{IsCheckedForAll}
+use Rattle.tree_order.specs.Reads.{IsJoinedTree}
+use Rattle.tree_order.specs.Reads.{pair_in, pairs_of as pairs_of_read, pairs_with, IsJoined, StandsInLoopsOf}
+use Rattle.tree_graphs.specs.Joint.{ReadAndWrite}
+use Rattle.tree_order.specs.declared.candidates.Problem.{Problem}
+use Rattle.tree_order.specs.declared.candidates.Read.{Read}
 use Rattle.int_polyhedra.specs.declared.system.System.{System}
 use Rattle.int_polyhedra.specs.Systems.{AreOver}
 use Rattle.last_writer.specs.Answers.{answered_context}
@@ -39,15 +39,15 @@ use Rattle.last_writer.proofs.Below.{answered_more, vars_are}
 use Rattle.last_writer.proofs.LeafConversion.{zip_count}
 use Rattle.last_writer.proofs.WriterTests.{tests_asked, told_asked}
 use Rattle.last_writer.proofs.QuotientWrites.{one_pair, told_all}
-use Rattle.difference_graphs.specs.Asked.{IsProblem}
-use Rattle.difference_graphs.proofs.EdgeSums.{over_append}
-use Rattle.difference_graphs.proofs.RowBounds.{forms_append}
-use Rattle.difference_graphs.specs.Level.{HasLevel}
-use Rattle.difference_graphs.proofs.MadeRows.{taken_all}
+use Rattle.tree_graphs.specs.Asked.{IsProblem}
+use Rattle.tree_graphs.proofs.EdgeSums.{over_append}
+use Rattle.tree_graphs.proofs.RowBounds.{forms_append}
+use Rattle.tree_graphs.specs.Level.{HasLevel}
+use Rattle.tree_graphs.proofs.MadeRows.{taken_all}
 use Rattle.plain_data.proofs.Lists.{slice_get-append_right}
-use Rattle.row_sums.specs.Parts.{IsWithin}
-use Rattle.row_sums.proofs.SmallRows.{widened_length}
-use Rattle.row_sums.proofs.Within.{IsWithin-weaker}
+use Rattle.tree_sums.specs.Parts.{IsWithin}
+use Rattle.tree_sums.proofs.SmallRows.{widened_length}
+use Rattle.tree_sums.proofs.Within.{IsWithin-weaker}
 use Rattle.sanlp.proofs.Elements.{list_all_at}
 use Rattle.sanlp.proofs.Roles.{Fits, fits_of}
 use Rattle.sanlp.specs.declared.nest.Nest.{Nest}
@@ -60,7 +60,7 @@ use Rattle.source_tree.specs.Systems.{undivided_rows, with_write, write_to, writ
 use Rattle.source_tree.specs.declared.tree.Tree.{Tree}
 use Rattle.source_tree.specs.declared.tree.Tree.TheViews.{Divides}
 use Rattle.source_tree.specs.References.{occurrence_of}
-use Rattle.stride_rows.specs.Class.{is_stride, stride_of}
+use Rattle.tree_cuts.specs.Class.{is_stride, stride_of}
 use Rattle.stride_trees.specs.Contexts.{IsNoIn}
 use Rattle.stride_trees.specs.Divisions.{division_of, divisions_from}
 use Rattle.stride_trees.specs.Strides.{depth_of_read, read_of, write_of, ArePlaces}
@@ -69,7 +69,7 @@ use Rattle.stride_trees.specs.declared.strides.Strides.{Strides}
 use Rattle.stride_trees.proofs.Lists.{forms_count}
 use Rattle.stride_trees.proofs.QuotientProblem.{told_problem}
 use Rattle.stride_trees.proofs.ProblemBounds.{are_fitting, AreFitting}
-use Rattle.stride_rows.specs.Cuts.{AddRows}
+use Rattle.tree_cuts.specs.Cuts.{AddRows}
 use Rattle.tree_facts.specs.Facts.{fact_rows, AddFacts, AreFacts}
 use Rattle.tree_facts.specs.declared.search.Facts.{Facts}
 

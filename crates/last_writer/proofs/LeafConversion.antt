@@ -11,8 +11,8 @@ use Rattle.std.proofs.lemmas.List.Elements.{All-append, All-cons, All-head, All-
 use Rattle.std.proofs.lemmas.Option.{same_Some, slice_get_within}
 use Rattle.std.proofs.lemmas.Simd.{map-map}
 use Rattle.affine_core.specs.declared.form.Form.{Form}
-use Rattle.candidate_order.specs.Candidates.{levels_before}
-use Rattle.candidate_join.proofs.LevelCounts.{few_before}
+use Rattle.tree_order.specs.Candidates.{levels_before}
+use Rattle.tree_join.proofs.LevelCounts.{few_before}
 use Rattle.last_writer.specs.Leaves.{after_counts, all_orders, answer_at, context_of, counts_behind, fact_context, is_told, order_counts}
 use Rattle.last_writer.specs.Leaves.{own_context, own_order_system, own_systems, write_vars, told_order_systems, told_systems, AddsOrderProofs}
 use Rattle.last_writer.specs.Leaves.{AddsProofs, HaveOrderRows, IsAnswered, IsAtLeaf, IsBelow, IsFurther, IsRefusal}
@@ -25,12 +25,12 @@ use Rattle.int_polyhedra.specs.declared.system.Proof.{Proof}
 use Rattle.last_writer.proofs.WriterTests.{no_test_in, tests_asked, tests_in, told_asked, HasAnswers, IsNoTestIn}
 use Rattle.last_writer.proofs.Below.{answer_row, vars_are}
 use Rattle.last_writer.proofs.LevelCounts.{counts_few, orders_made, order_lengths, AreNear}
-use Rattle.difference_graphs.specs.Level.{common_of}
+use Rattle.tree_graphs.specs.Level.{common_of}
 use Rattle.source_tree.specs.declared.reference.Reference.{Reference}
-use Rattle.difference_graphs.proofs.OrderEdges.{length_variables, variable_over, variable_within}
+use Rattle.tree_graphs.proofs.OrderEdges.{length_variables, variable_over, variable_within}
 use Rattle.plain_data.proofs.Lists.{All-slice_get}
-use Rattle.row_sums.specs.Parts.{IsWithin}
-use Rattle.row_sums.proofs.Within.{IsWithin-weaker}
+use Rattle.tree_sums.specs.Parts.{IsWithin}
+use Rattle.tree_sums.proofs.Within.{IsWithin-weaker}
 use Rattle.sanlp.proofs.Precedence.{common_first, common_second}
 use Rattle.source_tree.specs.Checked.{HaveVariables}
 use Rattle.source_tree.specs.Places.{before_rows, variables}

@@ -14,11 +14,11 @@ use Rattle.affine_core.specs.declared.form.Form.{Form}
 use Rattle.last_writer.specs.Leaves.{level_count_of}
 use Rattle.plain_data.proofs.Tests.{ltb-zero}
 use Rattle.plain_data.proofs.Lists.{map-same}
-use Rattle.row_sums.specs.Made.{reach, TakesWithin}
-use Rattle.row_sums.proofs.MadeLaws.{IsMade}
-use Rattle.row_sums.specs.Parts.{IsWithin}
-use Rattle.row_sums.proofs.SmallRows.{small_is_made}
-use Rattle.row_sums.proofs.Within.{IsWithin-weaker}
+use Rattle.tree_sums.specs.Made.{reach, TakesWithin}
+use Rattle.tree_sums.proofs.MadeLaws.{IsMade}
+use Rattle.tree_sums.specs.Parts.{IsWithin}
+use Rattle.tree_sums.proofs.SmallRows.{small_is_made}
+use Rattle.tree_sums.proofs.Within.{IsWithin-weaker}
 use Rattle.source_tree.specs.Places.{order_rows}
 use Rattle.source_tree.specs.Rows.{RowExpr, Take, equal_rows, minus, one_less, row_forms}
 use Rattle.stride_trees.specs.Contexts.{AreMadeSmall}

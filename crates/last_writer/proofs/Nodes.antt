@@ -4,13 +4,13 @@
 use Rattle.std.proofs.Common.{◌≡◌, ◌+◌, ◌^◌, ◌∙◌, ℕ, List, [], ◌∷◌, length, sym, ap, subst}
 use Rattle.std.specs.Prelude.{All}
 use Rattle.affine_core.specs.declared.form.Form.{Form}
-use Rattle.difference_graphs.specs.Joint.{no_orders, place_systems, write_systems_of, IsCheckedForAll, IsSum}
-use Rattle.difference_graphs.specs.Joint.{at_dead, at_test, at_writer, at_zero}
-use Rattle.difference_graphs.specs.Joint.{ReadAndWrite}
+use Rattle.tree_graphs.specs.Joint.{no_orders, place_systems, write_systems_of, IsCheckedForAll, IsSum}
+use Rattle.tree_graphs.specs.Joint.{at_dead, at_test, at_writer, at_zero}
+use Rattle.tree_graphs.specs.Joint.{ReadAndWrite}
 use Rattle.int_polyhedra.specs.declared.system.Proof.{Proof}
 use Rattle.last_writer.specs.Leaves.{pairs_of, IsJoinedPoint}
 use Rattle.last_writer.specs.declared.leaves.Answered.{Answered}
-use Rattle.row_sums.specs.Parts.{IsWithin}
+use Rattle.tree_sums.specs.Parts.{IsWithin}
 use Rattle.source_tree.specs.Checked.{AreRefuted, HaveVariables}
 use Rattle.source_tree.specs.Systems.{Context, dead_systems, test_no, test_yes}
 use Rattle.source_tree.specs.declared.tree.Tree.{Tree}

@@ -9,10 +9,10 @@ use Rattle.std.specs.Prelude.{sum_by}
 use Rattle.std.proofs.lemmas.List.{length_push, same_from_push}
 use Rattle.std.proofs.lemmas.List.Sums.{sum_by_push}
 use Rattle.affine_core.specs.declared.form.Form.{Form}
-use Rattle.candidate_join.proofs.Walks.{not_empty}
-use Rattle.difference_graphs.specs.Joint.{at_dead, at_test, at_writer, at_zero, IsCheckedForAll}
-use Rattle.difference_graphs.specs.Joint.{ReadAndWrite}
-use Rattle.difference_graphs.proofs.Heights.{height_sides}
+use Rattle.tree_join.proofs.Walks.{not_empty}
+use Rattle.tree_graphs.specs.Joint.{at_dead, at_test, at_writer, at_zero, IsCheckedForAll}
+use Rattle.tree_graphs.specs.Joint.{ReadAndWrite}
+use Rattle.tree_graphs.proofs.Heights.{height_sides}
 use Rattle.int_polyhedra.specs.declared.system.Proof.{Proof}
 use Rattle.last_writer.specs.Converted.{size_of, size_step, turns_left, turns_of_open, AreOpens, IsConverting, IsLow}
 use Rattle.last_writer.specs.Converted.{IsOpenAt, below, none}

@@ -15,8 +15,8 @@ use Rattle.last_writer.specs.Leaves.{AddsProofs, AreOrderRows, HaveOrderRows, Ha
 use Rattle.last_writer.specs.declared.leaves.Answered.{Answered}
 use Rattle.last_writer.specs.declared.writers.Writer.{Writer}
 use Rattle.last_writer.proofs.ProofSteps.{adds_both, adds_nothing, adds_one, adds_own}
-use Rattle.difference_graphs.proofs.RowBounds.{forms_append}
-use Rattle.row_sums.specs.Parts.{IsWithin}
+use Rattle.tree_graphs.proofs.RowBounds.{forms_append}
+use Rattle.tree_sums.specs.Parts.{IsWithin}
 use Rattle.source_tree.specs.Checked.{AreRefuted, IsRefuted}
 use Rattle.source_tree.specs.Rows.{RowExpr, RowSystem}
 use Rattle.source_tree.specs.Systems.{with_rows}

@@ -13,17 +13,17 @@ use Rattle.std.proofs.lemmas.List.{append_assoc, map-append}
 use Rattle.std.proofs.lemmas.Option.{same_Some, slice_get-map}
 use Rattle.std.proofs.lemmas.List.Elements.{All-cons, All-head, All-nil, All-tail}
 use Rattle.std.proofs.lemmas.Simd.{map-map}
-use Rattle.candidate_order.specs.Reads.{pair_in, read_in, write_in}
-use Rattle.difference_graphs.specs.Joint.{ReadAndWrite}
-use Rattle.candidate_order.specs.declared.candidates.Problem.{Problem}
-use Rattle.candidate_order.specs.declared.candidates.Read.{Read}
+use Rattle.tree_order.specs.Reads.{pair_in, read_in, write_in}
+use Rattle.tree_graphs.specs.Joint.{ReadAndWrite}
+use Rattle.tree_order.specs.declared.candidates.Problem.{Problem}
+use Rattle.tree_order.specs.declared.candidates.Read.{Read}
 use Rattle.last_writer.specs.Leaves.{is_told, told_pair, told_pairs}
 use Rattle.last_writer.specs.Told.{IsTold}
 use Rattle.last_writer.specs.Writers.{stands_before, AreWriters}
 use Rattle.last_writer.specs.declared.source.Told.{Told}
 use Rattle.last_writer.specs.declared.writers.Writer.{Writer}
 use Rattle.source_tree.specs.declared.reference.Reference.{Reference}
-use Rattle.difference_graphs.proofs.Just.{written_number}
+use Rattle.tree_graphs.proofs.Just.{written_number}
 use Rattle.sanlp.specs.declared.nest.Nest.{Nest}
 use Rattle.sanlp.specs.declared.nest.Statement.{Statement}
 use Rattle.source_tree.specs.Systems.{Occurrence, array_writes, with_write, write_to, writes_from}

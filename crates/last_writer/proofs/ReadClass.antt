@@ -7,7 +7,7 @@ use Rattle.std.specs.Prelude.{Option, Some, None, IsTrue, slice_get, ◌↔◌}
 use Rattle.std.specs.List.{list_all}
 use Rattle.std.specs.Option.{option_map}
 use Rattle.std.proofs.lemmas.Option.{option_and_then_some, same_Some}
-use Rattle.difference_graphs.specs.Class.{writes_differences, IsInDifferenceClass}
+use Rattle.tree_graphs.specs.Class.{writes_differences, IsInDifferenceClass}
 use Rattle.sanlp.specs.declared.nest.Access.{Access}
 use Rattle.sanlp.specs.declared.nest.Nest.{Nest}
 use Rattle.sanlp.specs.declared.nest.Statement.{Statement}

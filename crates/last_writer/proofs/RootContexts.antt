@@ -8,7 +8,7 @@ use Rattle.std.specs.Prelude.{Some, All, IsTrue}
 use Rattle.std.specs.List.{list_all, sum_by}
 use Rattle.std.proofs.lemmas.List.Elements.{All-nil, All-weaker}
 use Rattle.std.proofs.lemmas.Option.{same_Some}
-use Rattle.difference_graphs.specs.Contexts.{IsMadeAs}
+use Rattle.tree_graphs.specs.Contexts.{IsMadeAs}
 use Rattle.int_polyhedra.specs.declared.system.System.{System}
 use Rattle.last_writer.specs.Answers.{answered_context}
 use Rattle.stride_trees.specs.Answers.{HasSmallRows}
@@ -20,14 +20,14 @@ use Rattle.last_writer.proofs.Below.{answered_none}
 use Rattle.last_writer.proofs.JointTrees.{reader_fits, writer_places}
 use Rattle.last_writer.proofs.ReadClass.{reader_there, IsThere}
 use Rattle.source_tree.specs.declared.reference.Reference.{Reference}
-use Rattle.difference_graphs.proofs.MadeRows.{are_root, AreRoot}
+use Rattle.tree_graphs.proofs.MadeRows.{are_root, AreRoot}
 use Rattle.sanlp.specs.declared.nest.Nest.{Nest}
 use Rattle.sanlp.specs.declared.nest.Statement.{Statement}
 use Rattle.source_tree.specs.Checked.{IsCheckedIn}
 use Rattle.source_tree.specs.Systems.{Occurrence, array_writes, every, read_at, root_context, writes_from}
 use Rattle.source_tree.specs.declared.tree.Tree.{Tree}
 use Rattle.source_tree.specs.References.{occurrence_of}
-use Rattle.stride_rows.specs.Class.{stride_count, writes_strides, IsInStrideClass}
+use Rattle.tree_cuts.specs.Class.{stride_count, writes_strides, IsInStrideClass}
 use Rattle.stride_trees.specs.Strides.{depth_of_read, ArePlaces, IsStrided}
 use Rattle.stride_trees.specs.declared.divisions.Division.{Division}
 

@@ -11,16 +11,16 @@ use Rattle.std.specs.List.{list_all, sum_by}
 use Rattle.std.specs.Option.{option_and_then}
 use Rattle.std.proofs.lemmas.List.Sums.{sum_by-cons}
 use Rattle.std.proofs.lemmas.Bool.{and_parts}
-use Rattle.candidate_join.proofs.LevelCounts.{has_level}
-use Rattle.candidate_order.specs.Candidates.{levels_before}
+use Rattle.tree_join.proofs.LevelCounts.{has_level}
+use Rattle.tree_order.specs.Candidates.{levels_before}
 use Rattle.last_writer.specs.Writers.{stands_before, IsReadOf}
-use Rattle.difference_graphs.proofs.Just.{written_number}
+use Rattle.tree_graphs.proofs.Just.{written_number}
 use Rattle.source_tree.specs.declared.reference.Reference.{Reference}
 use Rattle.sanlp.specs.declared.nest.Nest.{Nest}
 use Rattle.sanlp.specs.declared.nest.Statement.{Statement}
 use Rattle.source_tree.specs.Systems.{Occurrence, with_write, write_to}
 use Rattle.source_tree.specs.References.{occurrence_of}
-use Rattle.stride_rows.specs.Class.{stride_count, writes_strides}
+use Rattle.tree_cuts.specs.Class.{stride_count, writes_strides}
 use Rattle.stride_trees.specs.Strides.{AreStrided}
 
 -- The write of one statement, and those of the others

@@ -14,7 +14,7 @@ use Rattle.std.proofs.lemmas.List.{length-replicate}
 use Rattle.affine_core.specs.declared.form.Form.{Form}
 use Rattle.affine_core.specs.Affine.{constant_form, form_product}
 use Rattle.affine_core.proofs.Linear.{length-sums}
-use Rattle.difference_graphs.specs.Joint.{no_orders, write_systems_of, IsCheckedForAll}
+use Rattle.tree_graphs.specs.Joint.{no_orders, write_systems_of, IsCheckedForAll}
 use Rattle.int_polyhedra.specs.declared.system.Proof.{Proof}
 use Rattle.last_writer.specs.Leaves.{context_of, fact_context, own_context, own_systems, pairs_of, told_pairs}
 use Rattle.last_writer.specs.Leaves.{told_systems, Converts, HasFacts, IsAnswered, IsBelow}
@@ -23,11 +23,11 @@ use Rattle.last_writer.specs.declared.leaves.Answered.{Answered}
 use Rattle.last_writer.proofs.Nodes.{joined_dead, joined_point, joined_test, joined_zero, AreBothJoined}
 use Rattle.last_writer.proofs.LeafConversion.{below_vars}
 use Rattle.last_writer.proofs.Whole.{own_are, told_are}
-use Rattle.difference_graphs.proofs.EdgeSums.{over_append}
-use Rattle.difference_graphs.proofs.Small.{negative_over, opposite_fits, opposite_form, opposite_within}
-use Rattle.difference_graphs.proofs.MadeRows.{more_made, opposite_made, taken_made}
-use Rattle.row_sums.specs.Parts.{IsWithin}
-use Rattle.row_sums.proofs.Within.{IsWithin-weaker}
+use Rattle.tree_graphs.proofs.EdgeSums.{over_append}
+use Rattle.tree_graphs.proofs.Small.{negative_over, opposite_fits, opposite_form, opposite_within}
+use Rattle.tree_graphs.proofs.MadeRows.{more_made, opposite_made, taken_made}
+use Rattle.tree_sums.specs.Parts.{IsWithin}
+use Rattle.tree_sums.proofs.Within.{IsWithin-weaker}
 use Rattle.source_tree.specs.Checked.{AreRefuted, IsCheckedIn}
 use Rattle.source_tree.specs.Checked.{at_dead as dead_in, at_test as test_in, at_writer as writer_in, at_zero as zero_in}
 use Rattle.source_tree.specs.Rows.{RowExpr, RowSystem, Take, below_zero, row_forms}

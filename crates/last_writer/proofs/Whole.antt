@@ -9,9 +9,9 @@ use Rattle.std.specs.Prelude.{All, nat_lt}
 use Rattle.std.specs.List.{filter, flat_map}
 use Rattle.std.proofs.lemmas.List.{nil_from_length}
 use Rattle.std.proofs.lemmas.List.Elements.{All-head, All-tail}
-use Rattle.candidate_order.specs.Candidates.{levels_before}
-use Rattle.difference_graphs.specs.Joint.{write_systems_of}
-use Rattle.candidate_join.proofs.LevelCounts.{level_rows_count}
+use Rattle.tree_order.specs.Candidates.{levels_before}
+use Rattle.tree_graphs.specs.Joint.{write_systems_of}
+use Rattle.tree_join.proofs.LevelCounts.{level_rows_count}
 use Rattle.last_writer.specs.Leaves.{is_told, own_systems, told_pair, told_pairs, told_systems}
 use Rattle.last_writer.specs.Writers.{stands_before, AreWriters, IsWriterOf}
 use Rattle.last_writer.specs.declared.writers.Writer.{Writer}

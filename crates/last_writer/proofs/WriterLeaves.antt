@@ -13,9 +13,9 @@ use Rattle.std.proofs.lemmas.List.{append_assoc, drop_at, length-map, map-append
 use Rattle.std.proofs.lemmas.List.Elements.{All-contains}
 use Rattle.std.proofs.lemmas.Option.{same_Some, slice_get-map}
 use Rattle.affine_core.specs.declared.form.Form.{Form}
-use Rattle.difference_graphs.specs.Joint.{orders_behind, write_systems_of}
-use Rattle.difference_graphs.specs.Joint.{ReadAndWrite}
-use Rattle.difference_graphs.specs.Level.{common_of}
+use Rattle.tree_graphs.specs.Joint.{orders_behind, write_systems_of}
+use Rattle.tree_graphs.specs.Joint.{ReadAndWrite}
+use Rattle.tree_graphs.specs.Level.{common_of}
 use Rattle.int_polyhedra.specs.declared.system.Proof.{Proof}
 use Rattle.last_writer.specs.Leaves.{after_counts, after_orders, domain_cell_rows, fact_context, is_told, order_counts, own_context}
 use Rattle.last_writer.specs.Leaves.{own_place_systems, own_systems, pairs_of, told_pair, told_pairs, told_place_systems}
@@ -29,7 +29,7 @@ use Rattle.last_writer.proofs.LevelCounts.{order_lengths}
 use Rattle.last_writer.proofs.TreeConversion.{all_written}
 use Rattle.last_writer.proofs.LeafConversion.{below_vars}
 use Rattle.last_writer.proofs.QuotientWrites.{contains_at, one_place, writers_ascend, Ascend}
-use Rattle.difference_graphs.proofs.OrderEdges.{length_variables}
+use Rattle.tree_graphs.proofs.OrderEdges.{length_variables}
 use Rattle.sanlp.proofs.Precedence.{common_first, common_second}
 use Rattle.sanlp.specs.declared.nest.Nest.{Nest}
 use Rattle.sanlp.specs.declared.nest.Statement.{Statement}
@@ -42,7 +42,7 @@ use Rattle.source_tree.proofs.Refutations.{length-AreRefuted}
 use Rattle.source_tree.specs.References.{occurrence_of}
 use Rattle.stride_trees.specs.Contexts.{outside_cell_systems, IsPlaceIn}
 use Rattle.stride_trees.specs.Problem.{problem_rows, problem_write, told_read, told_write}
-use Rattle.stride_rows.specs.Sources.{divided_form}
+use Rattle.tree_cuts.specs.Sources.{divided_form}
 use Rattle.stride_trees.specs.Strides.{depth_of_write, read_of, write_of}
 use Rattle.stride_trees.specs.declared.strides.Strides.{Strides}
 use Rattle.stride_trees.proofs.ProblemBounds.{are_fitting, AreFitting}

@@ -17,7 +17,7 @@ use Rattle.last_writer.specs.declared.writers.Writer.{Writer}
 use Rattle.plain_data.proofs.Lists.{slice_get-append_some}
 use Rattle.sanlp.specs.declared.nest.Nest.{Nest}
 use Rattle.source_tree.specs.Systems.{Occurrence}
-use Rattle.stride_rows.specs.Class.{stride_count}
+use Rattle.tree_cuts.specs.Class.{stride_count}
 use Rattle.stride_trees.specs.Answers.{IsSmallTest}
 use Rattle.stride_trees.specs.Divisions.{never_divides}
 use Rattle.stride_trees.specs.Strides.{depth_of_read, tests_of, write_of, IsStrided, IsTestOf}

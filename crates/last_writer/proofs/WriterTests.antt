@@ -18,7 +18,7 @@ use Rattle.last_writer.specs.declared.writers.Writer.{Writer}
 use Rattle.last_writer.proofs.Below.{answer_rows}
 use Rattle.source_tree.specs.Rows.{RowExpr, Take, minus}
 use Rattle.source_tree.specs.Systems.{Context, multiple, undivided_rows}
-use Rattle.stride_rows.specs.Class.{stride_of}
+use Rattle.tree_cuts.specs.Class.{stride_of}
 use Rattle.stride_trees.specs.Contexts.{AreTestsIn, IsTestIn}
 use Rattle.stride_trees.specs.Divisions.{division_of, divisions_from, never_divides}
 use Rattle.stride_trees.specs.declared.divisions.Division.{Division}

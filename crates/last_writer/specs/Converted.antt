@@ -1,6 +1,6 @@
 -- A joined tree on the way to one of the nest: what is left to convert.
 use Rattle.std.specs.Prelude.{◌≡◌, ◌≤◌, ◌+◌, ◌^◌, ℕ, List, [], ◌∷◌, ◌++◌, length, sum_by}
-use Rattle.difference_graphs.specs.Heights.{height_of}
+use Rattle.tree_graphs.specs.Heights.{height_of}
 use Rattle.last_writer.specs.Leaves.{Converts, IsJoinedBelow}
 use Rattle.last_writer.specs.declared.leaves.Answered.{Answered}
 use Rattle.last_writer.specs.declared.leaves.Open.{Open}

@@ -2,18 +2,18 @@
 use Rattle.std.specs.Prelude.{◌≡◌, ◌≤◌, ◌<◌, ◌+◌, ◌*◌, ◌^◌, ◌==◌, ℕ, Bool, true, false, Contains, slice_get, List, [], ◌∷◌, ◌++◌, map, length, nat_lt, All, Option, Some, None, slice_index_or, if◌then◌else◌}
 use Rattle.std.specs.List.{AllZip, filter, flat_map, list_all, range_with_len}
 use Rattle.affine_core.specs.declared.form.Form.{Form}
-use Rattle.candidate_order.specs.Candidates.{levels_before}
-use Rattle.difference_graphs.specs.Joint.{place_systems, IsCheckedForAll, IsSum}
-use Rattle.difference_graphs.specs.Joint.{ReadAndWrite}
+use Rattle.tree_order.specs.Candidates.{levels_before}
+use Rattle.tree_graphs.specs.Joint.{place_systems, IsCheckedForAll, IsSum}
+use Rattle.tree_graphs.specs.Joint.{ReadAndWrite}
 use Rattle.int_polyhedra.specs.declared.system.Proof.{Proof}
 use Rattle.last_writer.specs.Answers.{answered_context}
 use Rattle.last_writer.specs.Writers.{no_place, AreWriters, IsReadOf}
 use Rattle.last_writer.specs.declared.leaves.Answered.{Answered}
 use Rattle.last_writer.specs.declared.leaves.Refusal.{Refusal}
 use Rattle.last_writer.specs.declared.writers.Writer.{Writer}
-use Rattle.difference_graphs.specs.Level.{common_of}
+use Rattle.tree_graphs.specs.Level.{common_of}
 use Rattle.source_tree.specs.declared.reference.Reference.{Reference}
-use Rattle.row_sums.specs.Parts.{IsWithin}
+use Rattle.tree_sums.specs.Parts.{IsWithin}
 use Rattle.source_tree.specs.Checked.{AreRefuted, HaveVariables, IsCheckedIn, IsRefuted}
 use Rattle.source_tree.specs.Places.{before_rows, same_rows}
 use Rattle.source_tree.specs.Rows.{RowExpr, RowSystem}

@@ -1,12 +1,12 @@
 -- The writers of a read's array, and their tests of divisibility, each once.
 use Rattle.std.specs.Prelude.{◌≡◌, ◌≤◌, ◌==◌, ℕ, Bool, true, false, List, ◌++◌, map, length, nat_lt, All, Some, Contains, slice_get}
 use Rattle.std.specs.List.{AllZip, filter, list_any, sum_by}
-use Rattle.candidate_order.specs.Candidates.{levels_before}
+use Rattle.tree_order.specs.Candidates.{levels_before}
 use Rattle.last_writer.specs.declared.writers.Writer.{Writer}
 use Rattle.source_tree.specs.declared.reference.Reference.{Reference}
 use Rattle.sanlp.specs.declared.nest.Nest.{Nest}
 use Rattle.source_tree.specs.Systems.{Occurrence}
-use Rattle.stride_rows.specs.Class.{stride_count}
+use Rattle.tree_cuts.specs.Class.{stride_count}
 use Rattle.stride_trees.specs.Answers.{IsSmallTest}
 use Rattle.stride_trees.specs.Divisions.{never_divides}
 use Rattle.stride_trees.specs.Strides.{read_of, tests_of, write_of, IsStrided}

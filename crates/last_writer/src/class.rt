@@ -1,7 +1,7 @@
 ghost use Rattle.std.specs.Prelude.{◌≡◌, ◌<◌, ◌↔◌, ◌||◌, ℕ, pos, negsuc, nat_le, length, IsTrue};
 ghost use Rattle.std.specs.List.{count_by, list_all};
 ghost use Rattle.std.specs.Ordering.{int_eq};
-ghost use Rattle.difference_graphs.specs.Class.{IsInDifferenceClass, is_difference as is_row_of_class, is_shift as is_subscript_of_class, writes_differences as writes_by_differences};
+ghost use Rattle.tree_graphs.specs.Class.{IsInDifferenceClass, is_difference as is_row_of_class, is_shift as is_subscript_of_class, writes_differences as writes_by_differences};
 ghost use Rattle.sanlp.specs.Access.{read_count};
 ghost use Rattle.source_tree.specs.Systems.{writes_from};
 

@@ -1,8 +1,8 @@
 ghost use Rattle.std.specs.Prelude.{◌≡◌, ◌<◌, ◌≤◌, ◌+◌, ◌*◌, ◌^◌, ◌++◌, ℕ, [], ◌∷◌, true, List, drop, map, length, take, All, Some, Contains, IfOk, IfSome, MatchOption, OnOk};
 ghost use Rattle.std.specs.List.{flat_map, list_all, range_with_len};
 ghost use Rattle.affine_core.specs.declared.form.Form.{Form as FormOf};
-ghost use Rattle.difference_graphs.specs.Heights.{height_of};
-ghost use Rattle.difference_graphs.specs.Joint.{no_orders, write_systems_of, IsSum};
+ghost use Rattle.tree_graphs.specs.Heights.{height_of};
+ghost use Rattle.tree_graphs.specs.Joint.{no_orders, write_systems_of, IsSum};
 ghost use Rattle.int_polyhedra.specs.declared.system.Proof.{Proof as ProofOf};
 ghost use Rattle.int_polyhedra.specs.declared.system.Proof.TheVariants.{Sum};
 ghost use Rattle.last_writer.specs.Leaves.{after_counts as counts_after, all_orders, answer_at as answer_of, domain_cell_rows, counts_behind as behind_counts, fact_context, is_told, level_count_of, order_counts, own_context, own_place_systems, own_systems, pairs_of, write_vars, told_place_systems, told_systems, AddsOrderProofs, AddsProofs, AreOrderRows, Converts, HasWriter, HaveOrderRows, HaveRowCounts, IsAnswered, IsAtLeaf, IsFurther, IsJoinedBelow, IsJoinedPoint, IsLeafBelow, IsOwnPoint, IsRefusal, IsRefusalAmong, IsRefusedContext, IsWithoutFacts};
@@ -19,18 +19,18 @@ ghost use Rattle.source_tree.specs.References.{occurrence_of};
 
 use crate::writers::{NO_PLACE, Writer};
 use affine_core::{Form, Row};
-use candidate_order::level_count;
-use difference_graphs::test;
 use int_polyhedra::{Proof, Term};
 use plain_data::Items;
 use sanlp::{Nest, common_loops};
 use source_tree::{Reference, Tree};
 use std::alloc::{AllocError, Global};
-use stride_rows::Cut;
 use stride_trees::{
     Division, Strides, converted_place, converted_write, never_write, undivided_write,
 };
+use tree_cuts::Cut;
 use tree_facts::{proof_by_cuts, proofs_by_cuts};
+use tree_graphs::test;
+use tree_order::level_count;
 
 /// The writers of a read, where the first of their tests of divisibility have answers, and facts of the context where all
 /// have: Cuts of its rows, and the rows that they add.

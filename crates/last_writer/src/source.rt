@@ -1,9 +1,9 @@
 ghost use Rattle.std.specs.Prelude.{◌≡◌, ◌≤◌, ◌<◌, ◌+◌, ◌*◌, ◌≤ℤ◌, ◌^◌, ◌++◌, [], ◌∷◌, ℕ, pos, false, if◌then◌else◌, List, length, slice_get, All, Some, None, IfOk, IfSome, IsTrue, MatchOption, OnOk};
 ghost use Rattle.std.specs.List.{AllZip};
 ghost use Rattle.affine_core.specs.Affine.{widened_form};
-ghost use Rattle.difference_graphs.specs.Contexts.{IsMadeAs};
-ghost use Rattle.candidate_order.specs.Reads.{pairs_with};
-ghost use Rattle.candidate_order.specs.declared.candidates.Read.{Read as ReadOf};
+ghost use Rattle.tree_graphs.specs.Contexts.{IsMadeAs};
+ghost use Rattle.tree_order.specs.Reads.{pairs_with};
+ghost use Rattle.tree_order.specs.declared.candidates.Read.{Read as ReadOf};
 ghost use Rattle.last_writer.specs.Answers.{answered_context};
 ghost use Rattle.last_writer.specs.Leaves.{context_of, fact_context, told_pairs, vars_of, HasFacts, IsAnswered};
 ghost use Rattle.last_writer.specs.Told.{IsToldOf};
@@ -14,7 +14,7 @@ ghost use Rattle.source_tree.specs.Exact.{IsExact};
 ghost use Rattle.source_tree.specs.Systems.{every, read_at, root_context, Context, Occurrence};
 ghost use Rattle.sanlp.specs.declared.nest.Nest.{Nest as NestOf};
 ghost use Rattle.source_tree.specs.declared.tree.Tree.TheViews.{Divides as DividesOf};
-ghost use Rattle.stride_rows.specs.Class.{IsInStrideClass};
+ghost use Rattle.tree_cuts.specs.Class.{IsInStrideClass};
 ghost use Rattle.stride_trees.specs.Answers.{HasSmallRows, IsSmallTest};
 ghost use Rattle.stride_trees.specs.Contexts.{IsNoIn};
 ghost use Rattle.stride_trees.specs.Divisions.{always_divides};
@@ -24,8 +24,6 @@ ghost use Rattle.source_tree.specs.References.{occurrence_of};
 use crate::leaves::{Answered, converted, refusal_of};
 use crate::writers::{Writer, is_never, push_writers};
 use affine_core::{Form, KeptForm, KeptNumber, Row};
-use candidate_join::join;
-use candidate_order::{Problem, Read};
 use int_polyhedra::System;
 use plain_data::{Boxed, Items};
 use sanlp::{Nest, Statement};
@@ -35,6 +33,8 @@ use stride_trees::{
     Division, always_divides, below_test, divided_rows, no_is_nowhere, told_reads, told_writes,
 };
 use tree_facts::{Tests, facts_of, with_facts};
+use tree_join::join;
+use tree_order::{Problem, Read};
 
 // A write over quotients: its domain rows and subscripts, and those of the read.
 #[derive(Drop)]

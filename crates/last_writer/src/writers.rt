@@ -2,16 +2,16 @@ ghost use Rattle.std.specs.Prelude.{◌≡◌, ◌<◌, ◌≤◌, ◌≤ℤ◌,
 ghost use Rattle.std.specs.List.{list_all, sum_by};
 ghost use Rattle.last_writer.specs.Writers.{is_never, AddsPlaces, AddsTests, AreWriters, IsPlaceOf, IsReadOf, IsTestAt, IsWriterOf};
 ghost use Rattle.source_tree.specs.Systems.{read_at, with_write, write_to as write_of, writes_from, Occurrence};
-ghost use Rattle.stride_rows.specs.Class.{stride_count, writes_strides};
+ghost use Rattle.tree_cuts.specs.Class.{stride_count, writes_strides};
 ghost use Rattle.stride_trees.specs.Strides.{read_of, tests_of, write_of as strides_write, AreStrided, IsStrided};
 ghost use Rattle.source_tree.specs.References.{occurrence_of};
 
-use candidate_order::level_count;
 use plain_data::Items;
 use sanlp::{Nest, Statement, common_loops};
 use source_tree::Reference;
 use std::alloc::{AllocError, Global};
 use stride_trees::{Division, Strides, divisions_of, never_divides};
+use tree_order::level_count;
 
 /// The place of a test that says no by its form alone, which is never asked. Those that are asked have lower places.
 pub const NO_PLACE: u32 = 6;

@@ -22,33 +22,33 @@ use Rattle.int_polyhedra.specs.declared.system.Term.{Term}
 use Rattle.int_polyhedra.specs.Systems.{AreOver}
 use Rattle.sanlp.specs.Order.{common_loops}
 use Rattle.sanlp.proofs.Precedence.{common_loops-comm, common_loops-same}
-use Rattle.difference_graphs.specs.Asked.{depth_of_read, depth_of_write, read_of, write_of}
-use Rattle.difference_graphs.specs.Edges.{write_rows, AreLevelRows}
-use Rattle.difference_graphs.specs.Facts.{form_parts, IsFact}
+use Rattle.tree_graphs.specs.Asked.{depth_of_read, depth_of_write, read_of, write_of}
+use Rattle.tree_graphs.specs.Edges.{write_rows, AreLevelRows}
+use Rattle.tree_graphs.specs.Facts.{form_parts, IsFact}
 use Rattle.lex_max.specs.Leaves.{AreShown, IsLeafOf}
-use Rattle.difference_graphs.specs.Level.{common_of}
-use Rattle.difference_graphs.specs.Paths.{term_of, terms_from, IsPath}
-use Rattle.difference_graphs.specs.Simple.{IsLightSum}
-use Rattle.difference_graphs.specs.declared.edges.Edge.{Edge}
-use Rattle.difference_graphs.specs.declared.writes.Writes.{Writes}
+use Rattle.tree_graphs.specs.Level.{common_of}
+use Rattle.tree_graphs.specs.Paths.{term_of, terms_from, IsPath}
+use Rattle.tree_graphs.specs.Simple.{IsLightSum}
+use Rattle.tree_graphs.specs.declared.edges.Edge.{Edge}
+use Rattle.tree_graphs.specs.declared.writes.Writes.{Writes}
 use Rattle.lex_max.proofs.PointSystems.{Opposes}
-use Rattle.difference_graphs.proofs.ProblemBounds.{asked_fits, IsKnown}
+use Rattle.tree_graphs.proofs.ProblemBounds.{asked_fits, IsKnown}
 use Rattle.lex_max.proofs.LeafParts.{less_opposes, place_taken, shown_refuted, place_taken_here}
 use Rattle.lex_max.proofs.Levels.{later_row, of_level, same_at, sooner_row, AreOfLevel}
-use Rattle.difference_graphs.proofs.Differences.{past_part}
-use Rattle.difference_graphs.proofs.OrderEdges.{length_variables, reader_at, variable_at}
-use Rattle.difference_graphs.proofs.ZeroSystems.{variables_taken, IsPlaced}
-use Rattle.difference_graphs.proofs.EdgeSums.{cycle_shows, over_append, weight_few, weight_from, whole_over}
-use Rattle.difference_graphs.proofs.EdgeSums.{whole_within, IsBase}
-use Rattle.difference_graphs.proofs.RowBounds.{are_made, forms_append, level_at, most_made, small_append, small_equal, AreMade}
-use Rattle.difference_graphs.proofs.RowBounds.{AreSmall, AreTaken, IsSmallLevel}
+use Rattle.tree_graphs.proofs.Differences.{past_part}
+use Rattle.tree_graphs.proofs.OrderEdges.{length_variables, reader_at, variable_at}
+use Rattle.tree_graphs.proofs.ZeroSystems.{variables_taken, IsPlaced}
+use Rattle.tree_graphs.proofs.EdgeSums.{cycle_shows, over_append, weight_few, weight_from, whole_over}
+use Rattle.tree_graphs.proofs.EdgeSums.{whole_within, IsBase}
+use Rattle.tree_graphs.proofs.RowBounds.{are_made, forms_append, level_at, most_made, small_append, small_equal, AreMade}
+use Rattle.tree_graphs.proofs.RowBounds.{AreSmall, AreTaken, IsSmallLevel}
 use Rattle.plain_data.proofs.Lists.{slice_get-some, slice_get-append_right}
-use Rattle.row_sums.specs.Made.{parts_of}
-use Rattle.row_sums.specs.Parts.{Part, the_constant, the_coefficient, part_of, row_part, weight, IsWithin}
-use Rattle.row_sums.specs.Shown.{Shows}
-use Rattle.row_sums.proofs.SumAlgebra.{combines}
-use Rattle.row_sums.proofs.NegativeSums.{shown_refutes}
-use Rattle.row_sums.proofs.Weights.{weight_sum}
+use Rattle.tree_sums.specs.Made.{parts_of}
+use Rattle.tree_sums.specs.Parts.{Part, the_constant, the_coefficient, part_of, row_part, weight, IsWithin}
+use Rattle.tree_sums.specs.Shown.{Shows}
+use Rattle.tree_sums.proofs.SumAlgebra.{combines}
+use Rattle.tree_sums.proofs.NegativeSums.{shown_refutes}
+use Rattle.tree_sums.proofs.Weights.{weight_sum}
 use Rattle.source_tree.specs.Checked.{IsRefuted}
 use Rattle.source_tree.specs.Places.{before_rows, order_rows, same_rows}
 use Rattle.source_tree.specs.Rows.{equal_rows, minus, one_less, row_forms, RowExpr, Take}

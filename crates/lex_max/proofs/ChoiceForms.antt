@@ -4,21 +4,21 @@ use Rattle.std.specs.Prelude.{Option, Some, None, slice_get, IfSome}
 use Rattle.affine_core.specs.declared.form.Form.{Form}
 use Rattle.affine_core.specs.Affine.{form_product, form_sum}
 use Rattle.int_polyhedra.specs.declared.system.System.{System}
-use Rattle.difference_graphs.specs.Asked.{depth_of_write}
+use Rattle.tree_graphs.specs.Asked.{depth_of_write}
 use Rattle.lex_max.specs.Choices.{uppers_of, AreReady, IsChoosing}
 use Rattle.lex_max.specs.ChoiceSteps.{AreSmallForms, IsSmallForm}
-use Rattle.difference_graphs.specs.Facts.{form_parts}
-use Rattle.difference_graphs.specs.declared.closure.Bounds.{Bounds}
+use Rattle.tree_graphs.specs.Facts.{form_parts}
+use Rattle.tree_graphs.specs.declared.closure.Bounds.{Bounds}
 use Rattle.lex_max.specs.declared.decide.Choice.{Choice}
-use Rattle.difference_graphs.specs.declared.edges.Edge.{Edge}
-use Rattle.difference_graphs.specs.declared.writes.Writes.{Writes}
-use Rattle.difference_graphs.proofs.EdgeRows.{weight_over, weight_part}
+use Rattle.tree_graphs.specs.declared.edges.Edge.{Edge}
+use Rattle.tree_graphs.specs.declared.writes.Writes.{Writes}
+use Rattle.tree_graphs.proofs.EdgeRows.{weight_over, weight_part}
 use Rattle.lex_max.proofs.DecisionContexts.{form_at_done}
 use Rattle.lex_max.proofs.ChosenPaths.{is_led, IsLed}
-use Rattle.difference_graphs.proofs.Small.{negative_within}
-use Rattle.row_sums.specs.Parts.{Part, part_of, IsWithin}
-use Rattle.row_sums.proofs.Bound.{sum_within}
-use Rattle.row_sums.proofs.Within.{IsWithin-weaker}
+use Rattle.tree_graphs.proofs.Small.{negative_within}
+use Rattle.tree_sums.specs.Parts.{Part, part_of, IsWithin}
+use Rattle.tree_sums.proofs.Bound.{sum_within}
+use Rattle.tree_sums.proofs.Within.{IsWithin-weaker}
 
 -- a form less another one
 pub record IsAbove (vars : ℕ) (form chosen above : Form) : Type 0 where

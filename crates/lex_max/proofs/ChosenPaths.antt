@@ -14,26 +14,26 @@ use Rattle.std.proofs.lemmas.Option.{same_Some, slice_get_within}
 use Rattle.affine_core.specs.declared.form.Form.{Form}
 use Rattle.int_polyhedra.specs.declared.system.System.{System}
 use Rattle.int_polyhedra.specs.declared.system.Term.{Term}
-use Rattle.difference_graphs.specs.Asked.{depth_of_write}
+use Rattle.tree_graphs.specs.Asked.{depth_of_write}
 use Rattle.lex_max.specs.Choices.{chosen_place, upper_of, uppers_of, AreChoices, AreChosen, AreReady}
-use Rattle.difference_graphs.specs.Closed.{bound_at, number_parts, value_at, value_of, IsBound}
-use Rattle.difference_graphs.specs.Edges.{IsEdge}
-use Rattle.difference_graphs.specs.Facts.{form_parts}
+use Rattle.tree_graphs.specs.Closed.{bound_at, number_parts, value_at, value_of, IsBound}
+use Rattle.tree_graphs.specs.Edges.{IsEdge}
+use Rattle.tree_graphs.specs.Facts.{form_parts}
 use Rattle.lex_max.specs.Leaves.{IsPlaceOf}
-use Rattle.difference_graphs.specs.Paths.{term_of, IsPath}
-use Rattle.difference_graphs.specs.declared.closure.Bound.{Bound}
-use Rattle.difference_graphs.specs.declared.closure.Bounds.{Bounds}
+use Rattle.tree_graphs.specs.Paths.{term_of, IsPath}
+use Rattle.tree_graphs.specs.declared.closure.Bound.{Bound}
+use Rattle.tree_graphs.specs.declared.closure.Bounds.{Bounds}
 use Rattle.lex_max.specs.declared.decide.Choice.{Choice}
-use Rattle.difference_graphs.specs.declared.edges.Edge.{Edge}
-use Rattle.difference_graphs.specs.declared.writes.Writes.{Writes}
-use Rattle.difference_graphs.proofs.OrderEdges.{raised_part}
-use Rattle.difference_graphs.proofs.ZeroCycles.{raised_within}
+use Rattle.tree_graphs.specs.declared.edges.Edge.{Edge}
+use Rattle.tree_graphs.specs.declared.writes.Writes.{Writes}
+use Rattle.tree_graphs.proofs.OrderEdges.{raised_part}
+use Rattle.tree_graphs.proofs.ZeroCycles.{raised_within}
 use Rattle.lex_max.proofs.Uppers.{choice_is, is_upper, IsUpper}
-use Rattle.difference_graphs.proofs.PathSums.{path_edge, path_join, path_same}
+use Rattle.tree_graphs.proofs.PathSums.{path_edge, path_join, path_same}
 use Rattle.plain_data.proofs.Lists.{All-slice_get}
-use Rattle.row_sums.specs.Parts.{Part, part_of, weight, IsWithin}
-use Rattle.row_sums.proofs.Weights.{weight_sum}
-use Rattle.row_sums.proofs.Within.{IsWithin-weaker}
+use Rattle.tree_sums.specs.Parts.{Part, part_of, weight, IsWithin}
+use Rattle.tree_sums.proofs.Weights.{weight_sum}
+use Rattle.tree_sums.proofs.Within.{IsWithin-weaker}
 
 -- the bound that has a value
 pub bound_of : (o : Option Bound) (value : ℤ) → value_of o ≡ Some value → (b : Bound) × (o ≡ Some b) × (b.value ≡ value)

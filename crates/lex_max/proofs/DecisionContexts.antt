@@ -22,34 +22,34 @@ use Rattle.int_polyhedra.specs.Steps.{negation_of}
 use Rattle.int_polyhedra.specs.Systems.{AreOver}
 use Rattle.int_polyhedra.proofs.Variables.{length_zeros}
 use Rattle.lex_max.specs.Answer.{IsContextOf}
-use Rattle.difference_graphs.specs.Cycles.{IsContradiction, IsCycle}
-use Rattle.difference_graphs.specs.Asked.{depth_of_write, IsAsked}
+use Rattle.tree_graphs.specs.Cycles.{IsContradiction, IsCycle}
+use Rattle.tree_graphs.specs.Asked.{depth_of_write, IsAsked}
 use Rattle.lex_max.specs.Choices.{choices_left, upper_of, uppers_from, uppers_of, AllNone, AreCerts}
 use Rattle.lex_max.specs.Choices.{AreCertsSoFar, AreChoices, AreChosen, AreNoLess, AreReady, IsChoice, IsChoosing}
 use Rattle.lex_max.specs.Choices.{IsNextChoice, with_terms}
-use Rattle.difference_graphs.specs.Edges.{edge_parts}
-use Rattle.difference_graphs.specs.Facts.{form_parts, IsContext, IsFact}
-use Rattle.difference_graphs.specs.Paths.{term_of}
-use Rattle.difference_graphs.specs.declared.closure.Bounds.{Bounds}
-use Rattle.difference_graphs.specs.declared.cycles.Cycle.{Cycle}
+use Rattle.tree_graphs.specs.Edges.{edge_parts}
+use Rattle.tree_graphs.specs.Facts.{form_parts, IsContext, IsFact}
+use Rattle.tree_graphs.specs.Paths.{term_of}
+use Rattle.tree_graphs.specs.declared.closure.Bounds.{Bounds}
+use Rattle.tree_graphs.specs.declared.cycles.Cycle.{Cycle}
 use Rattle.lex_max.specs.declared.decide.Choice.{Choice}
-use Rattle.difference_graphs.specs.declared.edges.Edge.{Edge}
-use Rattle.difference_graphs.specs.declared.writes.Writes.{Writes}
+use Rattle.tree_graphs.specs.declared.edges.Edge.{Edge}
+use Rattle.tree_graphs.specs.declared.writes.Writes.{Writes}
 use Rattle.lex_max.proofs.LeastForm.{choice_behind, choices_behind, choices_push}
-use Rattle.difference_graphs.proofs.FactSums.{fact_behind, fact_same, fact_weaker}
+use Rattle.tree_graphs.proofs.FactSums.{fact_behind, fact_same, fact_weaker}
 use Rattle.lex_max.proofs.LeastForm.{kept_none, kept_some, switched_to}
-use Rattle.difference_graphs.proofs.ProblemBounds.{asked_fits}
-use Rattle.difference_graphs.proofs.EdgeSums.{over_append}
-use Rattle.difference_graphs.proofs.ZeroCycles.{opposite_coefficient, opposite_constant, opposite_contradicts}
-use Rattle.difference_graphs.proofs.Small.{negative_over, opposite_form, opposite_within}
-use Rattle.difference_graphs.proofs.Small.{negation_of-some}
+use Rattle.tree_graphs.proofs.ProblemBounds.{asked_fits}
+use Rattle.tree_graphs.proofs.EdgeSums.{over_append}
+use Rattle.tree_graphs.proofs.ZeroCycles.{opposite_coefficient, opposite_constant, opposite_contradicts}
+use Rattle.tree_graphs.proofs.Small.{negative_over, opposite_form, opposite_within}
+use Rattle.tree_graphs.proofs.Small.{negation_of-some}
 use Rattle.lex_max.proofs.Uppers.{has_upper, HasUpper}
 use Rattle.plain_data.proofs.Lists.{slice_get_push, slice_get-append_cons, All-slice_get}
-use Rattle.row_sums.specs.Parts.{Part, the_constant, the_coefficient, part_of, row_part, IsWithin}
-use Rattle.row_sums.specs.Shown.{Shows}
-use Rattle.row_sums.proofs.SumAlgebra.{combines}
-use Rattle.row_sums.proofs.Ideal.{product_part}
-use Rattle.row_sums.proofs.Within.{IsWithin-weaker}
+use Rattle.tree_sums.specs.Parts.{Part, the_constant, the_coefficient, part_of, row_part, IsWithin}
+use Rattle.tree_sums.specs.Shown.{Shows}
+use Rattle.tree_sums.proofs.SumAlgebra.{combines}
+use Rattle.tree_sums.proofs.Ideal.{product_part}
+use Rattle.tree_sums.proofs.Within.{IsWithin-weaker}
 
 -- Contexts
 

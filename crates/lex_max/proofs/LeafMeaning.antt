@@ -20,30 +20,30 @@ use Rattle.int_polyhedra.specs.declared.system.Term.{Term}
 use Rattle.int_polyhedra.specs.Systems.{AreOver, Meets}
 use Rattle.sanlp.specs.Order.{PrecedesWithin}
 use Rattle.lex_max.specs.Answer.{IsContextOf}
-use Rattle.difference_graphs.specs.Asked.{depth_of_read, depth_of_write, read_of, write_of}
+use Rattle.tree_graphs.specs.Asked.{depth_of_read, depth_of_write, read_of, write_of}
 use Rattle.lex_max.specs.Choices.{AreCerts}
-use Rattle.difference_graphs.specs.Edges.{edge_parts, write_rows, AreEdges, AreLevelRows}
-use Rattle.difference_graphs.specs.Facts.{form_parts}
-use Rattle.difference_graphs.specs.Level.{common_of, IsGreatest, WritesBefore}
-use Rattle.difference_graphs.specs.Paths.{terms_from, IsPath}
-use Rattle.difference_graphs.specs.Rounds.{IsGraphOf}
-use Rattle.difference_graphs.specs.declared.edges.Edge.{Edge}
-use Rattle.difference_graphs.specs.declared.writes.Writes.{Writes}
-use Rattle.difference_graphs.proofs.Differences.{past_part}
-use Rattle.difference_graphs.proofs.ProblemBounds.{asked_fits, IsKnown}
+use Rattle.tree_graphs.specs.Edges.{edge_parts, write_rows, AreEdges, AreLevelRows}
+use Rattle.tree_graphs.specs.Facts.{form_parts}
+use Rattle.tree_graphs.specs.Level.{common_of, IsGreatest, WritesBefore}
+use Rattle.tree_graphs.specs.Paths.{terms_from, IsPath}
+use Rattle.tree_graphs.specs.Rounds.{IsGraphOf}
+use Rattle.tree_graphs.specs.declared.edges.Edge.{Edge}
+use Rattle.tree_graphs.specs.declared.writes.Writes.{Writes}
+use Rattle.tree_graphs.proofs.Differences.{past_part}
+use Rattle.tree_graphs.proofs.ProblemBounds.{asked_fits, IsKnown}
 use Rattle.lex_max.proofs.RowMeaning.{all_met, all_over_rows, all_rows, base, j_is, no_later, system}
-use Rattle.difference_graphs.proofs.OrderEdges.{length_variables, variable_at, variable_over, variable_within}
-use Rattle.difference_graphs.proofs.EdgeSums.{cycle_shows}
+use Rattle.tree_graphs.proofs.OrderEdges.{length_variables, variable_at, variable_over, variable_within}
+use Rattle.tree_graphs.proofs.EdgeSums.{cycle_shows}
 use Rattle.lex_max.proofs.RowValues.{made_at, met_domain, taken_value, taken_values}
-use Rattle.difference_graphs.proofs.RowBounds.{most_made, most_taken, small_minus, AreSmall, IsSmallRow, IsTaken}
+use Rattle.tree_graphs.proofs.RowBounds.{most_made, most_taken, small_minus, AreSmall, IsSmallRow, IsTaken}
 use Rattle.plain_data.proofs.Options.{option_map-some}
-use Rattle.row_sums.specs.Made.{parts_of}
-use Rattle.row_sums.proofs.MadeLaws.{IsMade}
-use Rattle.row_sums.specs.Parts.{Part, the_constant, the_coefficient, part_of, row_part}
-use Rattle.row_sums.specs.Shown.{RowParts, Shows}
-use Rattle.row_sums.proofs.PointRows.{shown_holds}
-use Rattle.row_sums.proofs.SmallRows.{small_is_made}
-use Rattle.row_sums.proofs.Within.{IsWithin-weaker}
+use Rattle.tree_sums.specs.Made.{parts_of}
+use Rattle.tree_sums.proofs.MadeLaws.{IsMade}
+use Rattle.tree_sums.specs.Parts.{Part, the_constant, the_coefficient, part_of, row_part}
+use Rattle.tree_sums.specs.Shown.{RowParts, Shows}
+use Rattle.tree_sums.proofs.PointRows.{shown_holds}
+use Rattle.tree_sums.proofs.SmallRows.{small_is_made}
+use Rattle.tree_sums.proofs.Within.{IsWithin-weaker}
 use Rattle.source_tree.specs.Gives.{values}
 use Rattle.source_tree.specs.Places.{at_place, cell_rows, domain_rows, order_rows, variables}
 use Rattle.source_tree.specs.Rows.{RowExpr, Take, equal_rows, minus, one_less, row_at}

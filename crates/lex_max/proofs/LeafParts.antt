@@ -17,20 +17,20 @@ use Rattle.int_polyhedra.specs.declared.system.Proof.TheVariants.{Sum}
 use Rattle.int_polyhedra.specs.declared.system.System.{System}
 use Rattle.int_polyhedra.specs.declared.system.Term.{Term}
 use Rattle.sanlp.specs.WellFormed.{form_fits}
-use Rattle.difference_graphs.specs.Asked.{depth_of_write, IsCell}
-use Rattle.difference_graphs.specs.Facts.{IsFact}
+use Rattle.tree_graphs.specs.Asked.{depth_of_write, IsCell}
+use Rattle.tree_graphs.specs.Facts.{IsFact}
 use Rattle.lex_max.specs.Leaves.{AddsProofs, IsLeafOf}
-use Rattle.difference_graphs.specs.Paths.{term_of}
-use Rattle.difference_graphs.specs.Simple.{IsLightSum}
-use Rattle.difference_graphs.specs.declared.writes.Writes.{Writes}
+use Rattle.tree_graphs.specs.Paths.{term_of}
+use Rattle.tree_graphs.specs.Simple.{IsLightSum}
+use Rattle.tree_graphs.specs.declared.writes.Writes.{Writes}
 use Rattle.lex_max.proofs.PointSystems.{added_refuted, Opposes}
-use Rattle.difference_graphs.proofs.ProblemBounds.{form_is}
-use Rattle.difference_graphs.proofs.RowBounds.{farther_row, minus_row, most_made, most_placed, most_taken, one_less_row, placed_row}
-use Rattle.difference_graphs.proofs.RowBounds.{read_taken, taken_row, AreSmall, AreTaken, IsSmallRow}
-use Rattle.row_sums.specs.Made.{parts_of}
-use Rattle.row_sums.specs.Parts.{Part, IsWithin}
-use Rattle.row_sums.proofs.Weights.{weight_sum}
-use Rattle.row_sums.proofs.Within.{IsWithin-weaker}
+use Rattle.tree_graphs.proofs.ProblemBounds.{form_is}
+use Rattle.tree_graphs.proofs.RowBounds.{farther_row, minus_row, most_made, most_placed, most_taken, one_less_row, placed_row}
+use Rattle.tree_graphs.proofs.RowBounds.{read_taken, taken_row, AreSmall, AreTaken, IsSmallRow}
+use Rattle.tree_sums.specs.Made.{parts_of}
+use Rattle.tree_sums.specs.Parts.{Part, IsWithin}
+use Rattle.tree_sums.proofs.Weights.{weight_sum}
+use Rattle.tree_sums.proofs.Within.{IsWithin-weaker}
 use Rattle.source_tree.specs.Checked.{AreRefuted, IsRefuted}
 use Rattle.source_tree.specs.Places.{at_place, differ_rows}
 use Rattle.source_tree.specs.Rows.{RowExpr, RowSystem, Take, Times, below_zero, minus, one_less}

@@ -21,30 +21,30 @@ use Rattle.sanlp.specs.Order.{common_loops}
 use Rattle.sanlp.specs.WellFormed.{form_fits}
 use Rattle.sanlp.proofs.Precedence.{common_loops-comm}
 use Rattle.lex_max.specs.Answer.{IsContextOf}
-use Rattle.difference_graphs.specs.Asked.{depth_of_read, depth_of_write, read_of, write_of, AreCells, IsAsked}
+use Rattle.tree_graphs.specs.Asked.{depth_of_read, depth_of_write, read_of, write_of, AreCells, IsAsked}
 use Rattle.lex_max.specs.Choices.{AreCerts}
-use Rattle.difference_graphs.specs.Edges.{edge_parts, write_rows, AreEdges}
+use Rattle.tree_graphs.specs.Edges.{edge_parts, write_rows, AreEdges}
 use Rattle.lex_max.specs.Leaves.{after_levels, AddsProofs, AreOrderCerts, AreShown, HasAfter, IsAfterProof, IsLeafOf}
 use Rattle.lex_max.specs.Leaves.{IsPlaceOf}
-use Rattle.difference_graphs.specs.Level.{common_of}
-use Rattle.difference_graphs.specs.Paths.{term_of}
-use Rattle.difference_graphs.specs.Rounds.{IsGraphOf}
-use Rattle.difference_graphs.specs.Simple.{IsLightSum}
-use Rattle.difference_graphs.specs.declared.edges.Edge.{Edge}
-use Rattle.difference_graphs.specs.declared.writes.Writes.{Writes}
+use Rattle.tree_graphs.specs.Level.{common_of}
+use Rattle.tree_graphs.specs.Paths.{term_of}
+use Rattle.tree_graphs.specs.Rounds.{IsGraphOf}
+use Rattle.tree_graphs.specs.Simple.{IsLightSum}
+use Rattle.tree_graphs.specs.declared.edges.Edge.{Edge}
+use Rattle.tree_graphs.specs.declared.writes.Writes.{Writes}
 use Rattle.lex_max.proofs.After.{after_above, after_at, after_below, readers_taken}
 use Rattle.lex_max.proofs.After.{same_refuted, swapped_is}
-use Rattle.difference_graphs.proofs.FactSums.{fact_same}
-use Rattle.difference_graphs.proofs.ProblemBounds.{asked_fits, IsKnown}
+use Rattle.tree_graphs.proofs.FactSums.{fact_same}
+use Rattle.tree_graphs.proofs.ProblemBounds.{asked_fits, IsKnown}
 use Rattle.lex_max.proofs.LeafParts.{adds_more_proofs, adds_no_proofs, adds_one_proof, cell_next, outside_next}
 use Rattle.lex_max.proofs.LeafParts.{place_taken, place_taken_here}
 use Rattle.lex_max.proofs.Levels.{of_level, AreOfLevel}
-use Rattle.difference_graphs.proofs.MadeRows.{taken_all}
-use Rattle.difference_graphs.proofs.OrderEdges.{length_variables}
-use Rattle.difference_graphs.proofs.ZeroSystems.{level_exists, variables_taken}
-use Rattle.difference_graphs.proofs.RowBounds.{level_at, IsSmallLevel}
+use Rattle.tree_graphs.proofs.MadeRows.{taken_all}
+use Rattle.tree_graphs.proofs.OrderEdges.{length_variables}
+use Rattle.tree_graphs.proofs.ZeroSystems.{level_exists, variables_taken}
+use Rattle.tree_graphs.proofs.RowBounds.{level_at, IsSmallLevel}
 use Rattle.plain_data.proofs.Lists.{slice_get-some}
-use Rattle.row_sums.specs.Made.{parts_of}
+use Rattle.tree_sums.specs.Made.{parts_of}
 use Rattle.source_tree.specs.Checked.{IsRefuted}
 use Rattle.source_tree.specs.Places.{at_place, before_rows, cell_rows, differ_rows, domain_rows, order_rows, same_rows}
 use Rattle.source_tree.specs.Rows.{RowExpr, RowSystem, Take, below_zero, equal_rows, row_forms}

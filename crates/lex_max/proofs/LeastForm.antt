@@ -13,11 +13,11 @@ use Rattle.affine_core.specs.declared.form.Form.{Form}
 use Rattle.int_polyhedra.specs.declared.system.System.{System}
 use Rattle.int_polyhedra.specs.declared.system.Term.{Term}
 use Rattle.lex_max.specs.Choices.{AreChoices, AreNoLess, IsChoice, uppers_of, with_terms}
-use Rattle.difference_graphs.specs.Facts.{form_parts, IsFact}
-use Rattle.difference_graphs.specs.declared.closure.Bounds.{Bounds}
-use Rattle.difference_graphs.proofs.FactSums.{fact_behind, fact_same, fact_sum}
+use Rattle.tree_graphs.specs.Facts.{form_parts, IsFact}
+use Rattle.tree_graphs.specs.declared.closure.Bounds.{Bounds}
+use Rattle.tree_graphs.proofs.FactSums.{fact_behind, fact_same, fact_sum}
 use Rattle.lex_max.specs.declared.decide.Choice.{Choice}
-use Rattle.difference_graphs.specs.declared.edges.Edge.{Edge}
+use Rattle.tree_graphs.specs.declared.edges.Edge.{Edge}
 
 -- Lists of terms
 

@@ -18,33 +18,33 @@ use Rattle.int_polyhedra.specs.declared.system.Term.{Term}
 use Rattle.sanlp.specs.Order.{common_loops}
 use Rattle.sanlp.proofs.Precedence.{common_loops-same}
 use Rattle.lex_max.specs.Answer.{IsAnswer, IsContextOf}
-use Rattle.difference_graphs.specs.Asked.{depth_of_write, read_of, write_of, IsAsked}
+use Rattle.tree_graphs.specs.Asked.{depth_of_write, read_of, write_of, IsAsked}
 use Rattle.lex_max.specs.Choices.{chosen_place, AreCerts, AreChosen, AreReady}
-use Rattle.difference_graphs.specs.Edges.{write_rows}
+use Rattle.tree_graphs.specs.Edges.{write_rows}
 use Rattle.lex_max.specs.Leaves.{after_levels, AddsProofs, AreOrderCerts, AreShown, IsBetweenProof, IsLeafOf, IsPlaceOf}
-use Rattle.difference_graphs.specs.Level.{IsGreatest}
-use Rattle.difference_graphs.specs.Simple.{at_writer as simple_writer, IsLightSum}
-use Rattle.difference_graphs.specs.Systems.{at_writer, later_systems, place_systems}
-use Rattle.difference_graphs.specs.declared.closure.Bounds.{Bounds}
+use Rattle.tree_graphs.specs.Level.{IsGreatest}
+use Rattle.tree_graphs.specs.Simple.{at_writer as simple_writer, IsLightSum}
+use Rattle.tree_graphs.specs.Systems.{at_writer, later_systems, place_systems}
+use Rattle.tree_graphs.specs.declared.closure.Bounds.{Bounds}
 use Rattle.lex_max.specs.declared.decide.Choice.{Choice}
-use Rattle.difference_graphs.specs.declared.edges.Edge.{Edge}
-use Rattle.difference_graphs.specs.declared.writes.Writes.{Writes}
+use Rattle.tree_graphs.specs.declared.edges.Edge.{Edge}
+use Rattle.tree_graphs.specs.declared.writes.Writes.{Writes}
 use Rattle.lex_max.proofs.After.{between_refuted}
 use Rattle.lex_max.proofs.LeafProofs.{certs_shown, few_levels, leaf_of, level_of_place}
 use Rattle.lex_max.proofs.LeafProofs.{order_certs, plain_leaf, plain_of, proofs_more, proofs_whole, shown_count}
 use Rattle.lex_max.proofs.LeafProofs.{shown_first, shown_rest}
-use Rattle.difference_graphs.proofs.ProblemBounds.{asked_fits, IsKnown}
-use Rattle.difference_graphs.proofs.Just.{later_system}
+use Rattle.tree_graphs.proofs.ProblemBounds.{asked_fits, IsKnown}
+use Rattle.tree_graphs.proofs.Just.{later_system}
 use Rattle.lex_max.proofs.ChosenPaths.{is_place, led_at, IsLed}
 use Rattle.lex_max.proofs.LeafParts.{adds_more_proofs, adds_no_proofs, place_taken}
 use Rattle.lex_max.proofs.LeafMeaning.{greatest_there}
-use Rattle.difference_graphs.proofs.OrderEdges.{length_variables}
-use Rattle.difference_graphs.proofs.ZeroSystems.{placed, variables_taken, IsPlaced}
-use Rattle.difference_graphs.proofs.RowBounds.{level_at, most_taken, small_append, small_cells, small_domain, AreSmall, AreTaken}
-use Rattle.difference_graphs.proofs.RowBounds.{IsSmallLevel}
+use Rattle.tree_graphs.proofs.OrderEdges.{length_variables}
+use Rattle.tree_graphs.proofs.ZeroSystems.{placed, variables_taken, IsPlaced}
+use Rattle.tree_graphs.proofs.RowBounds.{level_at, most_taken, small_append, small_cells, small_domain, AreSmall, AreTaken}
+use Rattle.tree_graphs.proofs.RowBounds.{IsSmallLevel}
 use Rattle.plain_data.proofs.Tests.{ltb-same}
-use Rattle.row_sums.specs.Parts.{IsWithin}
-use Rattle.row_sums.proofs.Within.{IsWithin-weaker}
+use Rattle.tree_sums.specs.Parts.{IsWithin}
+use Rattle.tree_sums.proofs.Within.{IsWithin-weaker}
 use Rattle.source_tree.specs.Checked.{AreRefuted}
 use Rattle.source_tree.specs.Places.{before_rows, cell_rows, domain_rows, same_rows}
 use Rattle.source_tree.specs.Rows.{RowExpr, RowSystem, row_forms}

@@ -15,19 +15,19 @@ use Rattle.int_polyhedra.specs.declared.system.Proof.TheVariants.{Sum}
 use Rattle.int_polyhedra.specs.declared.system.System.{System}
 use Rattle.int_polyhedra.specs.declared.system.Term.{Term}
 use Rattle.int_polyhedra.specs.Systems.{AreOver}
-use Rattle.difference_graphs.specs.Facts.{IsFact}
+use Rattle.tree_graphs.specs.Facts.{IsFact}
 use Rattle.lex_max.specs.Leaves.{IsMadeFrom}
-use Rattle.difference_graphs.specs.Paths.{term_of}
-use Rattle.difference_graphs.proofs.EdgeSums.{over_append, weight_few}
-use Rattle.difference_graphs.proofs.RowBounds.{are_made, forms_append, most_made, AreMade, AreSmall}
+use Rattle.tree_graphs.specs.Paths.{term_of}
+use Rattle.tree_graphs.proofs.EdgeSums.{over_append, weight_few}
+use Rattle.tree_graphs.proofs.RowBounds.{are_made, forms_append, most_made, AreMade, AreSmall}
 use Rattle.plain_data.proofs.Lists.{slice_get-append_right}
-use Rattle.row_sums.specs.Made.{parts_of}
-use Rattle.row_sums.specs.Parts.{Part, the_constant, the_coefficient, part_of, row_part, weight, IsWithin}
-use Rattle.row_sums.specs.Shown.{RowParts, Shows}
-use Rattle.row_sums.proofs.SumAlgebra.{combines}
-use Rattle.row_sums.proofs.NegativeSums.{shown_refutes}
-use Rattle.row_sums.proofs.Weights.{weight_sum}
-use Rattle.row_sums.proofs.Within.{IsWithin-weaker}
+use Rattle.tree_sums.specs.Made.{parts_of}
+use Rattle.tree_sums.specs.Parts.{Part, the_constant, the_coefficient, part_of, row_part, weight, IsWithin}
+use Rattle.tree_sums.specs.Shown.{RowParts, Shows}
+use Rattle.tree_sums.proofs.SumAlgebra.{combines}
+use Rattle.tree_sums.proofs.NegativeSums.{shown_refutes}
+use Rattle.tree_sums.proofs.Weights.{weight_sum}
+use Rattle.tree_sums.proofs.Within.{IsWithin-weaker}
 use Rattle.source_tree.specs.Checked.{IsRefuted}
 use Rattle.source_tree.specs.Rows.{RowExpr}
 use Rattle.source_tree.specs.Systems.{Context, with_rows}

@@ -17,17 +17,17 @@ use Rattle.sanlp.specs.declared.nest.Statement.{Statement}
 use Rattle.int_polyhedra.specs.Systems.{Meets}
 use Rattle.sanlp.specs.Loops.{all_hold}
 use Rattle.lex_max.specs.Answer.{root_of, IsAnswer}
-use Rattle.difference_graphs.specs.Asked.{depth_of_read, read_of, write_of, AreAsked, HasLevelOf, IsAsked, IsProblem}
-use Rattle.difference_graphs.specs.Class.{writes_differences, IsInDifferenceClass}
-use Rattle.difference_graphs.specs.Level.{common_of, GivesGreatest, IsGreatest}
-use Rattle.difference_graphs.specs.Simple.{IsSimple}
-use Rattle.difference_graphs.specs.Systems.{IsCheckedFor}
-use Rattle.difference_graphs.specs.declared.writes.Writes.{Writes}
-use Rattle.difference_graphs.proofs.ProblemBounds.{are_fitting, problem_of, AreFitting}
-use Rattle.difference_graphs.proofs.Just.{checked_in, written_number}
+use Rattle.tree_graphs.specs.Asked.{depth_of_read, read_of, write_of, AreAsked, HasLevelOf, IsAsked, IsProblem}
+use Rattle.tree_graphs.specs.Class.{writes_differences, IsInDifferenceClass}
+use Rattle.tree_graphs.specs.Level.{common_of, GivesGreatest, IsGreatest}
+use Rattle.tree_graphs.specs.Simple.{IsSimple}
+use Rattle.tree_graphs.specs.Systems.{IsCheckedFor}
+use Rattle.tree_graphs.specs.declared.writes.Writes.{Writes}
+use Rattle.tree_graphs.proofs.ProblemBounds.{are_fitting, problem_of, AreFitting}
+use Rattle.tree_graphs.proofs.Just.{checked_in, written_number}
 use Rattle.lex_max.proofs.Root.{domain_meets}
-use Rattle.difference_graphs.proofs.MadeRows.{are_root}
-use Rattle.difference_graphs.proofs.Nodes.{simple_wider}
+use Rattle.tree_graphs.proofs.MadeRows.{are_root}
+use Rattle.tree_graphs.proofs.Nodes.{simple_wider}
 use Rattle.source_tree.specs.Checked.{IsCheckedIn}
 use Rattle.source_tree.specs.Gives.{gives}
 use Rattle.source_tree.specs.Systems.{Occurrence, array_writes, just, root_context, named_write, read_at, with_write}

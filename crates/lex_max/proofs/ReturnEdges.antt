@@ -13,26 +13,26 @@ use Rattle.affine_core.specs.Affine.{form_sum}
 use Rattle.affine_core.proofs.Linear.{length-sums}
 use Rattle.int_polyhedra.specs.declared.system.System.{System}
 use Rattle.int_polyhedra.specs.declared.system.Term.{Term}
-use Rattle.difference_graphs.specs.Cycles.{IsCycle}
-use Rattle.difference_graphs.specs.Asked.{depth_of_write}
+use Rattle.tree_graphs.specs.Cycles.{IsCycle}
+use Rattle.tree_graphs.specs.Asked.{depth_of_write}
 use Rattle.lex_max.specs.Choices.{chosen_place, uppers_of, AreChosen, AreReady}
-use Rattle.difference_graphs.specs.Edges.{edge_parts, IsEdge}
-use Rattle.difference_graphs.specs.Facts.{form_parts, IsFact}
-use Rattle.difference_graphs.specs.Paths.{term_of, IsPath}
-use Rattle.difference_graphs.specs.declared.closure.Bounds.{Bounds}
-use Rattle.difference_graphs.specs.declared.cycles.Cycle.{Cycle}
+use Rattle.tree_graphs.specs.Edges.{edge_parts, IsEdge}
+use Rattle.tree_graphs.specs.Facts.{form_parts, IsFact}
+use Rattle.tree_graphs.specs.Paths.{term_of, IsPath}
+use Rattle.tree_graphs.specs.declared.closure.Bounds.{Bounds}
+use Rattle.tree_graphs.specs.declared.cycles.Cycle.{Cycle}
 use Rattle.lex_max.specs.declared.decide.Choice.{Choice}
-use Rattle.difference_graphs.specs.declared.edges.Edge.{Edge}
-use Rattle.difference_graphs.specs.declared.writes.Writes.{Writes}
+use Rattle.tree_graphs.specs.declared.edges.Edge.{Edge}
+use Rattle.tree_graphs.specs.declared.writes.Writes.{Writes}
 use Rattle.lex_max.proofs.ChosenPaths.{led_at, IsLed}
-use Rattle.difference_graphs.proofs.ZeroCycles.{self_is_cycle}
+use Rattle.tree_graphs.proofs.ZeroCycles.{self_is_cycle}
 use Rattle.lex_max.proofs.Uppers.{choice_is, edge_at, inner_shown, out_shown, past_place, place_at, HasShown}
-use Rattle.difference_graphs.proofs.PathSums.{path_edge, path_join, path_same}
-use Rattle.row_sums.specs.Parts.{Part, part_of, row_part, weight, IsWithin}
-use Rattle.row_sums.proofs.Bound.{sum_within}
-use Rattle.row_sums.proofs.Ideal.{sum_part}
-use Rattle.row_sums.proofs.Weights.{weight_sum}
-use Rattle.row_sums.proofs.Within.{IsWithin-weaker}
+use Rattle.tree_graphs.proofs.PathSums.{path_edge, path_join, path_same}
+use Rattle.tree_sums.specs.Parts.{Part, part_of, row_part, weight, IsWithin}
+use Rattle.tree_sums.proofs.Bound.{sum_within}
+use Rattle.tree_sums.proofs.Ideal.{sum_part}
+use Rattle.tree_sums.proofs.Weights.{weight_sum}
+use Rattle.tree_sums.proofs.Within.{IsWithin-weaker}
 
 pub item_at : (choices : List Choice) (v : ℕ) (choice : Choice) → v < length choices → choice ≡ get_or choices v choice
     → slice_get choices v ≡ Some choice

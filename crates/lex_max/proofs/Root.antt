@@ -16,10 +16,10 @@ use Rattle.int_polyhedra.specs.Systems.{AreOver, Meets}
 use Rattle.sanlp.specs.declared.nest.Nest.{Nest}
 use Rattle.sanlp.specs.Loops.{all_hold}
 use Rattle.lex_max.specs.Answer.{root_of, IsContextOf}
-use Rattle.difference_graphs.specs.Asked.{depth_of_read, read_of, write_of, AreAsked}
-use Rattle.difference_graphs.specs.declared.writes.Writes.{Writes}
-use Rattle.difference_graphs.proofs.ProblemBounds.{are_fitting, AreFitting}
-use Rattle.difference_graphs.proofs.MadeRows.{are_root, AreRoot}
+use Rattle.tree_graphs.specs.Asked.{depth_of_read, read_of, write_of, AreAsked}
+use Rattle.tree_graphs.specs.declared.writes.Writes.{Writes}
+use Rattle.tree_graphs.proofs.ProblemBounds.{are_fitting, AreFitting}
+use Rattle.tree_graphs.proofs.MadeRows.{are_root, AreRoot}
 
 pub root_context_of : (n : Nest) (w : Writes) (context : System) (room : ℕ)
     → AreAsked n (read_of w) (write_of w) w.level → w.vars ≡ depth_of_read w → context ≡ root_of w → room ≤ 4064

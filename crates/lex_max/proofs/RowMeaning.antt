@@ -25,18 +25,18 @@ use Rattle.int_polyhedra.proofs.Soundness.{no_point}
 use Rattle.sanlp.specs.Loops.{all_hold}
 use Rattle.sanlp.specs.Order.{PrecedesWithin}
 use Rattle.lex_max.specs.Answer.{IsContextOf}
-use Rattle.difference_graphs.specs.Cycles.{IsContradiction}
-use Rattle.difference_graphs.specs.Asked.{depth_of_read, depth_of_write, read_of, write_of, AreCells}
-use Rattle.difference_graphs.specs.Edges.{write_rows}
-use Rattle.difference_graphs.specs.Level.{common_of, WritesBefore}
-use Rattle.difference_graphs.specs.Paths.{terms_from}
-use Rattle.difference_graphs.specs.Rounds.{IsGraphOf}
-use Rattle.difference_graphs.specs.declared.edges.Edge.{Edge}
-use Rattle.difference_graphs.specs.declared.writes.Writes.{Writes}
-use Rattle.difference_graphs.proofs.ProblemBounds.{asked_fits, IsKnown}
-use Rattle.difference_graphs.proofs.ZeroSystems.{placed, IsPlaced}
-use Rattle.difference_graphs.proofs.MadeRows.{taken_all}
-use Rattle.difference_graphs.proofs.EdgeSums.{cycle_refutes, whole_over, IsBase}
+use Rattle.tree_graphs.specs.Cycles.{IsContradiction}
+use Rattle.tree_graphs.specs.Asked.{depth_of_read, depth_of_write, read_of, write_of, AreCells}
+use Rattle.tree_graphs.specs.Edges.{write_rows}
+use Rattle.tree_graphs.specs.Level.{common_of, WritesBefore}
+use Rattle.tree_graphs.specs.Paths.{terms_from}
+use Rattle.tree_graphs.specs.Rounds.{IsGraphOf}
+use Rattle.tree_graphs.specs.declared.edges.Edge.{Edge}
+use Rattle.tree_graphs.specs.declared.writes.Writes.{Writes}
+use Rattle.tree_graphs.proofs.ProblemBounds.{asked_fits, IsKnown}
+use Rattle.tree_graphs.proofs.ZeroSystems.{placed, IsPlaced}
+use Rattle.tree_graphs.proofs.MadeRows.{taken_all}
+use Rattle.tree_graphs.proofs.EdgeSums.{cycle_refutes, whole_over, IsBase}
 use Rattle.lex_max.proofs.RowValues.{domain_met, level_met, met_made, taken_value, taken_values}
 use Rattle.lex_max.proofs.RowValues.{widened_met}
 use Rattle.source_tree.specs.Gives.{values}

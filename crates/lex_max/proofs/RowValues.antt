@@ -23,7 +23,7 @@ use Rattle.int_polyhedra.specs.Systems.{Meets}
 use Rattle.plain_data.proofs.Options.{option_map-some}
 use Rattle.plain_data.proofs.Lists.{same_head, same_tail}
 use Rattle.sanlp.specs.Loops.{all_hold}
-use Rattle.row_sums.proofs.RowParts.{made_has_parts}
+use Rattle.tree_sums.proofs.RowParts.{made_has_parts}
 use Rattle.source_tree.specs.Gives.{values}
 use Rattle.source_tree.specs.Places.{domain_rows, order_rows, variables}
 use Rattle.source_tree.specs.Rows.{RowExpr, Take, Plus, Times, equal_rows, minus, one_less, row_at, row_form}

@@ -17,13 +17,13 @@ use Rattle.int_polyhedra.specs.Steps.{negation_of}
 use Rattle.int_polyhedra.specs.Systems.{Meets}
 use Rattle.int_polyhedra.proofs.Soundness.{negation_at}
 use Rattle.lex_max.specs.Answer.{IsAnswer}
-use Rattle.difference_graphs.proofs.MadeRows.{more_made, opposite_made, taken_made}
-use Rattle.difference_graphs.specs.Asked.{read_of, write_of}
-use Rattle.difference_graphs.specs.Level.{IsGreatest}
-use Rattle.difference_graphs.specs.Simple.{at_test as simple_test}
-use Rattle.difference_graphs.specs.Systems.{at_test, IsCheckedFor}
-use Rattle.difference_graphs.specs.declared.writes.Writes.{Writes}
-use Rattle.row_sums.specs.Parts.{IsWithin}
+use Rattle.tree_graphs.proofs.MadeRows.{more_made, opposite_made, taken_made}
+use Rattle.tree_graphs.specs.Asked.{read_of, write_of}
+use Rattle.tree_graphs.specs.Level.{IsGreatest}
+use Rattle.tree_graphs.specs.Simple.{at_test as simple_test}
+use Rattle.tree_graphs.specs.Systems.{at_test, IsCheckedFor}
+use Rattle.tree_graphs.specs.declared.writes.Writes.{Writes}
+use Rattle.tree_sums.specs.Parts.{IsWithin}
 use Rattle.source_tree.specs.Gives.{gives}
 use Rattle.source_tree.specs.Rows.{Take, below_zero, row_forms}
 use Rattle.source_tree.specs.Systems.{Context, test_no, test_yes}

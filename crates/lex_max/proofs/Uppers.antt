@@ -23,25 +23,25 @@ use Rattle.int_polyhedra.specs.declared.system.Term.{Term}
 use Rattle.sanlp.proofs.Elements.{list_all_at}
 use Rattle.sanlp.specs.Bounds.{BoundsAbove}
 use Rattle.sanlp.specs.WellFormed.{form_fits}
-use Rattle.difference_graphs.specs.Asked.{depth_of_write, read_of, write_of}
+use Rattle.tree_graphs.specs.Asked.{depth_of_write, read_of, write_of}
 use Rattle.lex_max.specs.Choices.{chosen_place, upper_of, uppers_of, AreChosen, AreReady, IsChoice}
-use Rattle.difference_graphs.specs.Class.{is_difference}
-use Rattle.difference_graphs.specs.Closed.{value_at}
-use Rattle.difference_graphs.specs.Edges.{domain_edge_of, edge_parts, node_of, IsEdge}
-use Rattle.difference_graphs.specs.Facts.{form_parts, IsFact}
-use Rattle.difference_graphs.specs.Rounds.{AreClosedOf}
-use Rattle.difference_graphs.specs.declared.closure.Bounds.{Bounds}
+use Rattle.tree_graphs.specs.Class.{is_difference}
+use Rattle.tree_graphs.specs.Closed.{value_at}
+use Rattle.tree_graphs.specs.Edges.{domain_edge_of, edge_parts, node_of, IsEdge}
+use Rattle.tree_graphs.specs.Facts.{form_parts, IsFact}
+use Rattle.tree_graphs.specs.Rounds.{AreClosedOf}
+use Rattle.tree_graphs.specs.declared.closure.Bounds.{Bounds}
 use Rattle.lex_max.specs.declared.decide.Choice.{Choice}
-use Rattle.difference_graphs.specs.declared.edges.Edge.{Edge}
-use Rattle.difference_graphs.specs.declared.writes.Writes.{Writes}
+use Rattle.tree_graphs.specs.declared.edges.Edge.{Edge}
+use Rattle.tree_graphs.specs.declared.writes.Writes.{Writes}
 use Rattle.lex_max.proofs.LeastForm.{choices_at, no_less_at, HasTerms}
-use Rattle.difference_graphs.proofs.FactSums.{fact_weaker}
-use Rattle.difference_graphs.proofs.EdgeRows.{node_few}
-use Rattle.difference_graphs.proofs.Differences.{by_trit, differences_are, how_many, is_trit, past_part, AreTrits}
-use Rattle.difference_graphs.proofs.ProblemBounds.{asked_fits, form_is, IsKnown, FormFits}
+use Rattle.tree_graphs.proofs.FactSums.{fact_weaker}
+use Rattle.tree_graphs.proofs.EdgeRows.{node_few}
+use Rattle.tree_graphs.proofs.Differences.{by_trit, differences_are, how_many, is_trit, past_part, AreTrits}
+use Rattle.tree_graphs.proofs.ProblemBounds.{asked_fits, form_is, IsKnown, FormFits}
 use Rattle.plain_data.proofs.Lists.{All-slice_get}
-use Rattle.row_sums.specs.Closure.{AtMost, bound_sum}
-use Rattle.row_sums.specs.Parts.{Part, the_constant, the_coefficient, part_of, row_part}
+use Rattle.tree_sums.specs.Closure.{AtMost, bound_sum}
+use Rattle.tree_sums.specs.Parts.{Part, the_constant, the_coefficient, part_of, row_part}
 
 -- Values
 

@@ -13,21 +13,21 @@ use Rattle.int_polyhedra.specs.declared.system.System.{System}
 use Rattle.int_polyhedra.specs.declared.system.Term.{Term}
 use Rattle.int_polyhedra.specs.Systems.{AreOver}
 use Rattle.lex_max.specs.Answer.{IsAnswer, IsContextOf}
-use Rattle.difference_graphs.specs.Cycles.{IsContradiction}
-use Rattle.difference_graphs.specs.Asked.{read_of, write_of}
-use Rattle.difference_graphs.specs.Level.{IsGreatest}
-use Rattle.difference_graphs.specs.Paths.{terms_from}
-use Rattle.difference_graphs.specs.Rounds.{IsGraphOf}
-use Rattle.difference_graphs.specs.Simple.{at_zero as simple_zero, IsLightSum}
-use Rattle.difference_graphs.proofs.Nodes.{simple_wider}
-use Rattle.difference_graphs.specs.Systems.{at_zero, none_systems}
-use Rattle.difference_graphs.specs.declared.edges.Edge.{Edge}
-use Rattle.difference_graphs.specs.declared.writes.Writes.{Writes}
+use Rattle.tree_graphs.specs.Cycles.{IsContradiction}
+use Rattle.tree_graphs.specs.Asked.{read_of, write_of}
+use Rattle.tree_graphs.specs.Level.{IsGreatest}
+use Rattle.tree_graphs.specs.Paths.{terms_from}
+use Rattle.tree_graphs.specs.Rounds.{IsGraphOf}
+use Rattle.tree_graphs.specs.Simple.{at_zero as simple_zero, IsLightSum}
+use Rattle.tree_graphs.proofs.Nodes.{simple_wider}
+use Rattle.tree_graphs.specs.Systems.{at_zero, none_systems}
+use Rattle.tree_graphs.specs.declared.edges.Edge.{Edge}
+use Rattle.tree_graphs.specs.declared.writes.Writes.{Writes}
 use Rattle.lex_max.proofs.RowMeaning.{none_where_refuted}
-use Rattle.difference_graphs.proofs.ZeroSystems.{none_refuted}
-use Rattle.difference_graphs.proofs.EdgeSums.{weight_from, IsBase}
-use Rattle.row_sums.specs.Parts.{weight}
-use Rattle.row_sums.proofs.Weights.{weight_sum}
+use Rattle.tree_graphs.proofs.ZeroSystems.{none_refuted}
+use Rattle.tree_graphs.proofs.EdgeSums.{weight_from, IsBase}
+use Rattle.tree_sums.specs.Parts.{weight}
+use Rattle.tree_sums.proofs.Weights.{weight_sum}
 use Rattle.source_tree.specs.Checked.{AreRefuted}
 use Rattle.source_tree.specs.declared.tree.Tree.{Tree}
 use Rattle.source_tree.specs.declared.tree.Tree.TheVariants.{Zero}

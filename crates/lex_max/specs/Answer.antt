@@ -2,12 +2,12 @@
 use Rattle.std.specs.Prelude.{◌≡◌, ◌≤◌, ◌^◌, ◌+◌, ℕ, ℤ, List, length, All, Some}
 use Rattle.int_polyhedra.specs.declared.system.System.{System}
 use Rattle.int_polyhedra.specs.Systems.{AreOver, Meets}
-use Rattle.difference_graphs.specs.Asked.{read_of, write_of}
-use Rattle.difference_graphs.specs.Level.{IsGreatest}
-use Rattle.difference_graphs.specs.Simple.{IsSimple}
-use Rattle.difference_graphs.specs.Systems.{IsCheckedFor}
-use Rattle.difference_graphs.specs.declared.writes.Writes.{Writes}
-use Rattle.row_sums.specs.Parts.{IsWithin}
+use Rattle.tree_graphs.specs.Asked.{read_of, write_of}
+use Rattle.tree_graphs.specs.Level.{IsGreatest}
+use Rattle.tree_graphs.specs.Simple.{IsSimple}
+use Rattle.tree_graphs.specs.Systems.{IsCheckedFor}
+use Rattle.tree_graphs.specs.declared.writes.Writes.{Writes}
+use Rattle.tree_sums.specs.Parts.{IsWithin}
 use Rattle.source_tree.specs.Gives.{gives}
 use Rattle.source_tree.specs.Rows.{row_forms}
 use Rattle.source_tree.specs.Systems.{Context}

@@ -4,13 +4,13 @@ use Rattle.affine_core.specs.declared.form.Form.{Form}
 use Rattle.int_polyhedra.specs.declared.system.System.{System}
 use Rattle.int_polyhedra.specs.Steps.{negation_of}
 use Rattle.lex_max.specs.Choices.{IsChoosing, IsNextChoice}
-use Rattle.difference_graphs.specs.declared.closure.Bounds.{Bounds}
-use Rattle.difference_graphs.specs.declared.cycles.Cycle.{Cycle}
+use Rattle.tree_graphs.specs.declared.closure.Bounds.{Bounds}
+use Rattle.tree_graphs.specs.declared.cycles.Cycle.{Cycle}
 use Rattle.lex_max.specs.declared.decide.Choice.{Choice}
 use Rattle.lex_max.specs.declared.decide.ChoiceStep.{ChoiceStep}
 use Rattle.lex_max.specs.declared.decide.ChoiceStep.TheVariants.{Known, Either}
-use Rattle.difference_graphs.specs.declared.edges.Edge.{Edge}
-use Rattle.row_sums.specs.Parts.{IsWithin}
+use Rattle.tree_graphs.specs.declared.edges.Edge.{Edge}
+use Rattle.tree_sums.specs.Parts.{IsWithin}
 
 -- a form over so many variables with small numbers, as each form that bounds a loop variable is
 pub record IsSmallForm (vars : ℕ) (form : Form) : Type 0 where

@@ -5,15 +5,15 @@ use Rattle.std.specs.Option.{option_map}
 use Rattle.affine_core.specs.declared.form.Form.{Form}
 use Rattle.int_polyhedra.specs.declared.system.System.{System}
 use Rattle.int_polyhedra.specs.declared.system.Term.{Term}
-use Rattle.difference_graphs.specs.Asked.{depth_of_write}
-use Rattle.difference_graphs.specs.Closed.{value_at}
-use Rattle.difference_graphs.specs.Edges.{edge_parts}
-use Rattle.difference_graphs.specs.Facts.{form_parts, IsFact}
-use Rattle.difference_graphs.specs.Rounds.{AreClosedOf, IsGraphOf}
-use Rattle.difference_graphs.specs.declared.closure.Bounds.{Bounds}
+use Rattle.tree_graphs.specs.Asked.{depth_of_write}
+use Rattle.tree_graphs.specs.Closed.{value_at}
+use Rattle.tree_graphs.specs.Edges.{edge_parts}
+use Rattle.tree_graphs.specs.Facts.{form_parts, IsFact}
+use Rattle.tree_graphs.specs.Rounds.{AreClosedOf, IsGraphOf}
+use Rattle.tree_graphs.specs.declared.closure.Bounds.{Bounds}
 use Rattle.lex_max.specs.declared.decide.Choice.{Choice}
-use Rattle.difference_graphs.specs.declared.edges.Edge.{Edge}
-use Rattle.difference_graphs.specs.declared.writes.Writes.{Writes}
+use Rattle.tree_graphs.specs.declared.edges.Edge.{Edge}
+use Rattle.tree_graphs.specs.declared.writes.Writes.{Writes}
 
 -- the form of the path to a variable that begins with this edge, if it is one from 0 and there is a path
 abbrev pub upper_of : ℕ → Bounds → ℕ → Edge → Option Form

@@ -3,14 +3,14 @@ use Rattle.std.specs.Prelude.{◌≡◌, ◌^◌, ℕ, List}
 use Rattle.affine_core.specs.declared.form.Form.{Form}
 use Rattle.int_polyhedra.specs.declared.system.System.{System}
 use Rattle.lex_max.specs.Answer.{IsAnswer}
-use Rattle.difference_graphs.specs.Cycles.{IsCycle}
-use Rattle.difference_graphs.specs.Edges.{edge_parts}
-use Rattle.difference_graphs.specs.Facts.{form_parts, IsFact}
+use Rattle.tree_graphs.specs.Cycles.{IsCycle}
+use Rattle.tree_graphs.specs.Edges.{edge_parts}
+use Rattle.tree_graphs.specs.Facts.{form_parts, IsFact}
 use Rattle.lex_max.specs.declared.decide.EdgeState.{EdgeState}
 use Rattle.lex_max.specs.declared.decide.EdgeState.TheVariants.{Shown, Refuted, Open}
-use Rattle.difference_graphs.specs.declared.edges.Edge.{Edge}
-use Rattle.difference_graphs.specs.declared.writes.Writes.{Writes}
-use Rattle.row_sums.specs.Parts.{Part}
+use Rattle.tree_graphs.specs.declared.edges.Edge.{Edge}
+use Rattle.tree_graphs.specs.declared.writes.Writes.{Writes}
+use Rattle.tree_sums.specs.Parts.{Part}
 
 -- terms that show it, the leaf of a context that refutes it, or a cycle whose form has its parts there
 abbrev pub IsEdgeState : Writes → List Edge → System → List Form → Edge → EdgeState → Type 0

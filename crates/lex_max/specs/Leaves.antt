@@ -6,16 +6,16 @@ use Rattle.int_polyhedra.specs.declared.system.Proof.TheVariants.{Sum}
 use Rattle.int_polyhedra.specs.declared.system.System.{System}
 use Rattle.int_polyhedra.specs.declared.system.Term.{Term}
 use Rattle.int_polyhedra.specs.Systems.{AreOver}
-use Rattle.difference_graphs.specs.Asked.{depth_of_write, read_of, write_of, IsAsked}
-use Rattle.difference_graphs.specs.Edges.{AreLevelRows}
-use Rattle.difference_graphs.specs.Facts.{form_parts, IsFact}
-use Rattle.difference_graphs.specs.Paths.{term_of, terms_from, IsPath}
-use Rattle.difference_graphs.specs.Simple.{IsLightSum}
+use Rattle.tree_graphs.specs.Asked.{depth_of_write, read_of, write_of, IsAsked}
+use Rattle.tree_graphs.specs.Edges.{AreLevelRows}
+use Rattle.tree_graphs.specs.Facts.{form_parts, IsFact}
+use Rattle.tree_graphs.specs.Paths.{term_of, terms_from, IsPath}
+use Rattle.tree_graphs.specs.Simple.{IsLightSum}
 use Rattle.lex_max.specs.declared.decide.Choice.{Choice}
-use Rattle.difference_graphs.specs.declared.edges.Edge.{Edge}
-use Rattle.difference_graphs.specs.declared.writes.Writes.{Writes}
-use Rattle.row_sums.specs.Made.{parts_of}
-use Rattle.row_sums.specs.Parts.{weight, IsWithin}
+use Rattle.tree_graphs.specs.declared.edges.Edge.{Edge}
+use Rattle.tree_graphs.specs.declared.writes.Writes.{Writes}
+use Rattle.tree_sums.specs.Made.{parts_of}
+use Rattle.tree_sums.specs.Parts.{weight, IsWithin}
 use Rattle.source_tree.specs.Checked.{AreRefuted, IsRefuted}
 use Rattle.source_tree.specs.Places.{before_rows}
 use Rattle.source_tree.specs.Rows.{RowExpr, RowSystem, row_forms}

@@ -3,33 +3,33 @@ ghost use Rattle.std.specs.Bool.{OnTrue};
 ghost use Rattle.std.specs.Option.{option_map};
 ghost use Rattle.int_polyhedra.specs.declared.system.System.{System as SystemOf};
 ghost use Rattle.int_polyhedra.specs.declared.system.Term.{Term as TermOf};
-ghost use Rattle.difference_graphs.specs.declared.closure.Bounds.{Bounds as BoundsOf};
-ghost use Rattle.difference_graphs.specs.declared.edges.Edge.{Edge as EdgeOf};
+ghost use Rattle.tree_graphs.specs.declared.closure.Bounds.{Bounds as BoundsOf};
+ghost use Rattle.tree_graphs.specs.declared.edges.Edge.{Edge as EdgeOf};
 ghost use Rattle.lex_max.specs.Answer.{IsAnswer, IsContextOf};
-ghost use Rattle.difference_graphs.specs.Cycles.{IsCycle};
-ghost use Rattle.difference_graphs.specs.Asked.{depth_of_write, IsAsked};
+ghost use Rattle.tree_graphs.specs.Cycles.{IsCycle};
+ghost use Rattle.tree_graphs.specs.Asked.{depth_of_write, IsAsked};
 ghost use Rattle.affine_core.specs.declared.form.Form.{Form as FormOf};
 ghost use Rattle.int_polyhedra.specs.Steps.{negation_of};
 ghost use Rattle.lex_max.specs.ChoiceSteps.{with_cycles, AreSmallForms, IsChoiceStep, IsFollowed, IsSmallForm};
 ghost use Rattle.lex_max.specs.Choices.{chosen_place, choices_left, upper_of, uppers_from, uppers_of, with_terms, AllNone, AreCertsSoFar, AreChosen, AreReady, IsChoosing, IsNextChoice};
-ghost use Rattle.difference_graphs.specs.Edges.{edge_parts, IsEdge};
+ghost use Rattle.tree_graphs.specs.Edges.{edge_parts, IsEdge};
 ghost use Rattle.lex_max.specs.EdgeStates.{IsEdgeState};
-ghost use Rattle.difference_graphs.specs.Facts.{form_parts, with_form, IsContext, IsFact};
-ghost use Rattle.difference_graphs.specs.Paths.{IsPath};
-ghost use Rattle.difference_graphs.specs.Rounds.{AreClosedOf, IsGraphOf};
-ghost use Rattle.row_sums.specs.Parts.{weight, IsWithin, Part};
+ghost use Rattle.tree_graphs.specs.Facts.{form_parts, with_form, IsContext, IsFact};
+ghost use Rattle.tree_graphs.specs.Paths.{IsPath};
+ghost use Rattle.tree_graphs.specs.Rounds.{AreClosedOf, IsGraphOf};
+ghost use Rattle.tree_sums.specs.Parts.{weight, IsWithin, Part};
 
 use crate::leaf::writer_leaf;
 use crate::zeros::{refuted_by, refuted_leaf, zero_below};
 use affine_core::Form;
-use difference_graphs::{
-    Bounds, Cycle, Edge, Graph, Writes, append, difference, form_beyond, joined, known, negative,
-    once, opposite, sum, test, with_row,
-};
 use int_polyhedra::{System, Term};
 use plain_data::Items;
 use source_tree::Tree;
 use std::alloc::{AllocError, Global};
+use tree_graphs::{
+    Bounds, Cycle, Edge, Graph, Writes, append, difference, form_beyond, joined, known, negative,
+    once, opposite, sum, test, with_row,
+};
 
 /// The least of the forms that bound a loop variable above: the number of the edge from 0 that its path begins with, the
 /// form, and per edge from 0 with a path the terms that show that its form is no less.

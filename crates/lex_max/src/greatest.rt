@@ -1,22 +1,22 @@
 ghost use Rattle.std.specs.Prelude.{◌≡◌, Some, IfOk};
 ghost use Rattle.lex_max.specs.Answer.{root_of, IsAnswer, IsContextOf};
-ghost use Rattle.difference_graphs.specs.Asked.{depth_of_read, read_of, write_of, AreAsked, HasLevelOf, IsAsked, WritesArrayOf};
+ghost use Rattle.tree_graphs.specs.Asked.{depth_of_read, read_of, write_of, AreAsked, HasLevelOf, IsAsked, WritesArrayOf};
 ghost use Rattle.lex_max.specs.Choices.{AreReady};
-ghost use Rattle.difference_graphs.specs.Class.{IsInDifferenceClass};
-ghost use Rattle.difference_graphs.specs.Level.{common_of, GivesGreatest};
-ghost use Rattle.difference_graphs.specs.Simple.{IsSimple};
+ghost use Rattle.tree_graphs.specs.Class.{IsInDifferenceClass};
+ghost use Rattle.tree_graphs.specs.Level.{common_of, GivesGreatest};
+ghost use Rattle.tree_graphs.specs.Simple.{IsSimple};
 ghost use Rattle.source_tree.specs.Checked.{IsCheckedIn};
 ghost use Rattle.source_tree.specs.Systems.{just, named_write, read_at, root_context, Occurrence};
 ghost use Rattle.source_tree.specs.References.{occurrence_of};
 
 use crate::decide::conditions;
 use crate::zeros::zero_leaf;
-use difference_graphs::{Closure, Graph, Writes, closure_of, cycles_of, edges_of};
 use int_polyhedra::System;
 use plain_data::Items;
 use sanlp::{Nest, common_loops};
 use source_tree::{Reference, Tree};
 use std::alloc::{AllocError, Global};
+use tree_graphs::{Closure, Graph, Writes, closure_of, cycles_of, edges_of};
 
 // The reader's domain rows.
 fn root(w: &Writes) -> Result<System, AllocError>

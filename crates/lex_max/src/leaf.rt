@@ -3,11 +3,11 @@ ghost use Rattle.std.specs.List.{list_all};
 ghost use Rattle.affine_core.specs.declared.form.Form.{Form as FormOf};
 ghost use Rattle.int_polyhedra.specs.declared.system.System.{System as SystemOf};
 ghost use Rattle.lex_max.specs.Answer.{IsAnswer, IsContextOf};
-ghost use Rattle.difference_graphs.specs.Asked.{depth_of_write, read_of, write_of, AreCells, IsAsked};
+ghost use Rattle.tree_graphs.specs.Asked.{depth_of_write, read_of, write_of, AreCells, IsAsked};
 ghost use Rattle.lex_max.specs.Choices.{chosen_place, AreCerts, AreChosen, AreReady};
 ghost use Rattle.lex_max.specs.Leaves.{after_levels, AddsProofs, AreOrderCerts, AreShown, HasAfter, IsAfterProof, IsBetweenProof, IsLeafOf};
-ghost use Rattle.difference_graphs.specs.Simple.{IsLightSum};
-ghost use Rattle.difference_graphs.specs.Systems.{later_systems, place_systems};
+ghost use Rattle.tree_graphs.specs.Simple.{IsLightSum};
+ghost use Rattle.tree_graphs.specs.Systems.{later_systems, place_systems};
 ghost use Rattle.sanlp.specs.WellFormed.{form_fits};
 ghost use Rattle.source_tree.specs.Checked.{AreRefuted, IsRefuted};
 ghost use Rattle.source_tree.specs.Places.{at_place, cell_rows, differ_rows, domain_rows, same_rows};
@@ -16,11 +16,11 @@ ghost use Rattle.source_tree.specs.Systems.{after_systems, reader_place, with_ro
 
 use crate::decide::{Choice, path_to};
 use affine_core::KeptForm;
-use difference_graphs::{Graph, Writes, append_from, sum_with_row};
 use int_polyhedra::{Proof, System, Term};
 use plain_data::Items;
 use source_tree::Tree;
 use std::alloc::AllocError;
+use tree_graphs::{Graph, Writes, append_from, sum_with_row};
 
 // Where the leaf's point is outside the domain: each row at the point, and that it is below 0.
 fn push_outside(

@@ -2,19 +2,19 @@ ghost use Rattle.std.specs.Prelude.{◌≡◌, ◌^◌, ◌++◌, [], ◌∷◌,
 ghost use Rattle.affine_core.specs.declared.form.Form.{Form as FormOf};
 ghost use Rattle.int_polyhedra.specs.declared.system.System.{System as SystemOf};
 ghost use Rattle.int_polyhedra.specs.Steps.{negation_of};
-ghost use Rattle.difference_graphs.specs.declared.edges.Edge.{Edge as EdgeOf};
-ghost use Rattle.difference_graphs.specs.Cycles.{IsContradiction, IsCycle};
-ghost use Rattle.difference_graphs.specs.Facts.{form_parts, IsContext, IsFact};
-ghost use Rattle.difference_graphs.specs.Rounds.{IsGraphOf};
+ghost use Rattle.tree_graphs.specs.declared.edges.Edge.{Edge as EdgeOf};
+ghost use Rattle.tree_graphs.specs.Cycles.{IsContradiction, IsCycle};
+ghost use Rattle.tree_graphs.specs.Facts.{form_parts, IsContext, IsFact};
+ghost use Rattle.tree_graphs.specs.Rounds.{IsGraphOf};
 ghost use Rattle.lex_max.specs.Answer.{IsAnswer, IsContextOf};
-ghost use Rattle.row_sums.specs.Parts.{IsWithin};
+ghost use Rattle.tree_sums.specs.Parts.{IsWithin};
 
 use affine_core::Form;
-use difference_graphs::{Cycle, Writes, append, append_from, known, once, opposite, with_row};
 use int_polyhedra::{Proof, System, Term};
 use plain_data::Items;
 use source_tree::Tree;
 use std::alloc::AllocError;
+use tree_graphs::{Cycle, Writes, append, append_from, known, once, opposite, with_row};
 
 /// The Zero leaf of a context that shows `-form - 1` by some terms, where the form is the sum of rows on the writer's
 /// point.

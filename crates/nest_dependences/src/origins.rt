@@ -8,7 +8,7 @@ use plain_data::{Boxed, Items};
 use sanlp::Nest;
 use source_tree::Origin;
 use std::alloc::{AllocError, Global};
-use stride_rows::in_stride_class;
+use tree_cuts::in_stride_class;
 
 // Whether the read has a tree.
 fn has_tree(nest: &Nest, statement: u32, read: u32) -> bool

@@ -17,8 +17,8 @@ use plain_data::{Boxed, Items};
 use sanlp::{LOOP_VALUE_LIMIT, Nest, Points};
 use source_tree::{Origin, Tree};
 use std::alloc::{AllocError, Global};
-use stride_rows::differences_are_strides;
 use tree_bounds::stays_within;
+use tree_cuts::differences_are_strides;
 use tree_eval::Follower;
 
 // Whether the tree overflows at none of these points.

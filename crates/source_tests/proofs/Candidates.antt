@@ -10,8 +10,8 @@ use Rattle.sanlp.specs.declared.nest.Access.{Access}
 use Rattle.sanlp.specs.declared.nest.Nest.{Nest}
 use Rattle.sanlp.specs.declared.nest.Statement.{Statement}
 use Rattle.source_tree.specs.Systems.{Occurrence, write_to}
-use Rattle.difference_graphs.specs.Asked.{WritesArrayOf}
-use Rattle.stride_rows.proofs.ReadClass.{read_is}
+use Rattle.tree_graphs.specs.Asked.{WritesArrayOf}
+use Rattle.tree_cuts.proofs.ReadClass.{read_is}
 
 pub writes_array : (n : Nest) (s k u : ℕ) (reader writer : Statement) (access : Access) (w : Occurrence)
     → slice_get n.statements s ≡ Some reader → slice_get reader.reads k ≡ Some access

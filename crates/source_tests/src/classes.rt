@@ -5,7 +5,7 @@ use crate::programs::{BACKWARDS, GUARDED, PRODUCT, RUNNING_SUM, STENCIL, STEPPED
 use last_writer::in_difference_class;
 use std::alloc::Global;
 use std::test::Fail;
-use stride_rows::in_stride_class;
+use tree_cuts::in_stride_class;
 
 const OF_A_SUM: &[u8] = b"param N; in x[N]; out y[N]; var a[N]; \
     for (i = 0; i < N; i++) for (j = 0; j < N; j++) a[i + j] = x[i]; \

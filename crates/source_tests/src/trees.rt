@@ -9,7 +9,6 @@ use crate::programs::{
     TWICE, TWO_CASES, TWO_LOOPS,
 };
 use affine_core::Vector;
-use candidate_order::level_count;
 use last_writer::{in_difference_class, source_of, write_to};
 use lex_max::candidate;
 use loop_walk::{points, size};
@@ -19,8 +18,9 @@ use shadow_sweep::sweep;
 use source_tree::{Reference, SourceTable, Tree};
 use std::alloc::{AllocError, Global};
 use std::test::Fail;
-use stride_rows::in_stride_class;
 use stride_trees::stride_candidate;
+use tree_cuts::in_stride_class;
+use tree_order::level_count;
 
 // A nest with its points, and a read of it.
 #[derive(Clone, Copy)]

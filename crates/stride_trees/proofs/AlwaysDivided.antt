@@ -12,16 +12,16 @@ use Rattle.std.proofs.lemmas.Option.{slice_get_within}
 use Rattle.affine_core.specs.declared.form.Form.{Form}
 use Rattle.affine_core.specs.Affine.{variable_form, widened_form}
 use Rattle.int_polyhedra.specs.Rules.{Refutes}
-use Rattle.row_sums.specs.Parts.{Part, the_constant, the_coefficient, part_of, row_part, IsWithin}
-use Rattle.row_sums.specs.Shown.{RowParts}
-use Rattle.row_sums.proofs.SmallRows.{widened_part}
-use Rattle.row_sums.proofs.Within.{IsWithin-weaker}
+use Rattle.tree_sums.specs.Parts.{Part, the_constant, the_coefficient, part_of, row_part, IsWithin}
+use Rattle.tree_sums.specs.Shown.{RowParts}
+use Rattle.tree_sums.proofs.SmallRows.{widened_part}
+use Rattle.tree_sums.proofs.Within.{IsWithin-weaker}
 use Rattle.source_tree.specs.Checked.{AreRefuted}
 use Rattle.source_tree.specs.Rows.{RowExpr, Take, Plus, minus, number, one_less}
 use Rattle.source_tree.specs.Systems.{Context, dead_systems, multiple}
 use Rattle.source_tree.specs.Walk.{divides}
 use Rattle.stride_trees.proofs.AlwaysMultiple.{always_refutes}
-use Rattle.stride_rows.proofs.Indivisible.{number_part}
+use Rattle.tree_cuts.proofs.Indivisible.{number_part}
 use Rattle.stride_trees.proofs.RoundedRows.{rounded_proof}
 use Rattle.stride_trees.specs.Contexts.{IsNoIn}
 use Rattle.stride_trees.specs.Divisions.{always_divides}

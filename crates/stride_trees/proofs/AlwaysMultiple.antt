@@ -13,10 +13,10 @@ use Rattle.int_polyhedra.specs.Rules.{Refutes}
 use Rattle.int_polyhedra.specs.Steps.{floor}
 use Rattle.int_polyhedra.specs.Systems.{AreOver}
 use Rattle.int_polyhedra.proofs.Floor.{floor_exact}
-use Rattle.row_sums.specs.Parts.{Part, the_constant, the_coefficient, row_part, IsWithin}
-use Rattle.row_sums.specs.Shown.{RowParts}
-use Rattle.stride_rows.proofs.Floors.{floor_shifted}
-use Rattle.stride_rows.proofs.Indivisible.{below_one, number_part}
+use Rattle.tree_sums.specs.Parts.{Part, the_constant, the_coefficient, row_part, IsWithin}
+use Rattle.tree_sums.specs.Shown.{RowParts}
+use Rattle.tree_cuts.proofs.Floors.{floor_shifted}
+use Rattle.tree_cuts.proofs.Indivisible.{below_one, number_part}
 use Rattle.stride_trees.proofs.RoundedRows.{rounded_proof, rounded_refutes}
 
 -- the rows of a test's no whose form is always a multiple

@@ -15,26 +15,26 @@ use Rattle.std.proofs.lemmas.List.{length-map}
 use Rattle.affine_core.specs.declared.form.Form.{Form}
 use Rattle.affine_core.specs.Affine.{form_product, form_sum, variable_form, widened_form}
 use Rattle.affine_core.proofs.Linear.{length-sums}
-use Rattle.difference_graphs.specs.Contexts.{IsMadeAs}
+use Rattle.tree_graphs.specs.Contexts.{IsMadeAs}
 use Rattle.int_polyhedra.specs.declared.system.System.{System}
 use Rattle.int_polyhedra.specs.Systems.{AreOver}
 use Rattle.stride_trees.specs.Answers.{HasSmallRows, IsSmallTest}
-use Rattle.difference_graphs.proofs.OrderEdges.{raised_part, variable_over, variable_within}
-use Rattle.difference_graphs.proofs.EdgeSums.{over_append, over_widened, within_widened}
-use Rattle.difference_graphs.proofs.ZeroCycles.{raised_within}
-use Rattle.difference_graphs.proofs.Small.{negative_over, negative_within}
-use Rattle.difference_graphs.proofs.RowBounds.{forms_append}
-use Rattle.row_sums.specs.Made.{parts_of, reach, TakesWithin}
-use Rattle.row_sums.specs.Parts.{Part, the_constant, the_coefficient, part_of, IsWithin}
-use Rattle.row_sums.proofs.Bound.{product_within, sum_within}
-use Rattle.row_sums.proofs.Ideal.{product_part, sum_part}
-use Rattle.row_sums.proofs.SmallRows.{small_is_made, widened_length, widened_part}
-use Rattle.row_sums.proofs.RowParts.{made_widens}
-use Rattle.row_sums.proofs.Within.{IsWithin-weaker, IsWithin-from_parts, part_of-le}
+use Rattle.tree_graphs.proofs.OrderEdges.{raised_part, variable_over, variable_within}
+use Rattle.tree_graphs.proofs.EdgeSums.{over_append, over_widened, within_widened}
+use Rattle.tree_graphs.proofs.ZeroCycles.{raised_within}
+use Rattle.tree_graphs.proofs.Small.{negative_over, negative_within}
+use Rattle.tree_graphs.proofs.RowBounds.{forms_append}
+use Rattle.tree_sums.specs.Made.{parts_of, reach, TakesWithin}
+use Rattle.tree_sums.specs.Parts.{Part, the_constant, the_coefficient, part_of, IsWithin}
+use Rattle.tree_sums.proofs.Bound.{product_within, sum_within}
+use Rattle.tree_sums.proofs.Ideal.{product_part, sum_part}
+use Rattle.tree_sums.proofs.SmallRows.{small_is_made, widened_length, widened_part}
+use Rattle.tree_sums.proofs.RowParts.{made_widens}
+use Rattle.tree_sums.proofs.Within.{IsWithin-weaker, IsWithin-from_parts, part_of-le}
 use Rattle.source_tree.specs.Rows.{RowExpr, Take, Plus, minus, number, one_less, row_form, row_forms}
 use Rattle.source_tree.specs.Systems.{Context, multiple, one_more}
 use Rattle.stride_trees.specs.declared.divisions.Division.{Division}
-use Rattle.stride_rows.proofs.WriterCuts.{same_forms}
+use Rattle.tree_cuts.proofs.WriterCuts.{same_forms}
 
 -- a row is the form that has its parts
 row_is : (vars bound : ℕ) (e : RowExpr) (f : Form) → TakesWithin vars bound e → reach bound e < 2 ^ 127

@@ -18,19 +18,19 @@ use Rattle.affine_core.proofs.Integers.{int_le-true}
 use Rattle.int_polyhedra.specs.declared.system.System.{System}
 use Rattle.int_polyhedra.specs.Systems.{AreOver}
 use Rattle.lex_max.specs.Answer.{IsAnswer, IsContextOf}
-use Rattle.difference_graphs.specs.Asked.{read_of as asked_read, write_of as asked_write, HasLevelOf}
+use Rattle.tree_graphs.specs.Asked.{read_of as asked_read, write_of as asked_write, HasLevelOf}
 use Rattle.lex_max.specs.Leaves.{IsMadeFrom}
-use Rattle.difference_graphs.specs.Level.{common_of, GivesGreatest, IsGreatest}
-use Rattle.difference_graphs.specs.Systems.{IsCheckedFor}
-use Rattle.difference_graphs.specs.declared.writes.Writes.{Writes}
-use Rattle.difference_graphs.proofs.ProblemBounds.{form_is, FormFits}
-use Rattle.difference_graphs.proofs.Just.{checked_in}
+use Rattle.tree_graphs.specs.Level.{common_of, GivesGreatest, IsGreatest}
+use Rattle.tree_graphs.specs.Systems.{IsCheckedFor}
+use Rattle.tree_graphs.specs.declared.writes.Writes.{Writes}
+use Rattle.tree_graphs.proofs.ProblemBounds.{form_is, FormFits}
+use Rattle.tree_graphs.proofs.Just.{checked_in}
 use Rattle.lex_max.proofs.ReadAndWrite.{named_number, read_is, write_has, IsReadAt}
-use Rattle.difference_graphs.proofs.MadeRows.{are_root, AreRoot}
+use Rattle.tree_graphs.proofs.MadeRows.{are_root, AreRoot}
 use Rattle.lex_max.proofs.RowValues.{met_made}
 use Rattle.plain_data.proofs.Lists.{All-range_with_len}
-use Rattle.row_sums.specs.Parts.{IsWithin}
-use Rattle.row_sums.proofs.Within.{IsWithin-weaker}
+use Rattle.tree_sums.specs.Parts.{IsWithin}
+use Rattle.tree_sums.proofs.Within.{IsWithin-weaker}
 use Rattle.sanlp.specs.declared.nest.Nest.{Nest}
 use Rattle.sanlp.specs.declared.nest.Statement.{Statement}
 use Rattle.sanlp.specs.Loops.{all_hold}
@@ -44,7 +44,7 @@ use Rattle.source_tree.specs.declared.tree.Tree.{Tree}
 use Rattle.source_tree.proofs.MetRows.{AreMet}
 use Rattle.stride_trees.specs.Candidates.{at_test as cut_test, at_writer as cut_writer, at_zero as cut_zero, IsCutTree}
 use Rattle.stride_trees.specs.Candidates.{IsStrideTree}
-use Rattle.stride_rows.specs.Class.{stride_count, writes_strides, IsInStrideClass}
+use Rattle.tree_cuts.specs.Class.{stride_count, writes_strides, IsInStrideClass}
 use Rattle.stride_trees.specs.Contexts.{first_places, IsConvertedTree, IsTestedContext, IsToldTree}
 use Rattle.stride_trees.specs.Problem.{told_read, told_write}
 use Rattle.stride_trees.specs.Strides.{depth_of_read, read_of, root_of, tested_context, tests_of, write_of, ArePlaces, AreStrided}

@@ -20,7 +20,7 @@ use Rattle.stride_trees.specs.Divisions.{never_divides, rules_out}
 use Rattle.stride_trees.specs.Strides.{IsTestOf}
 use Rattle.stride_trees.specs.declared.divisions.Division.{Division}
 use Rattle.stride_trees.specs.declared.strides.Strides.{Strides}
-use Rattle.stride_rows.proofs.QuotientRows.{stride_positive}
+use Rattle.tree_cuts.proofs.QuotientRows.{stride_positive}
 use Rattle.std.proofs.lemmas.Int.{ints, to_z-of_z}
 
 pub positive_size : (z : ℤ) → pos 1 ≤ℤ z → (0 < unsigned_abs z) × (z ≡ pos (unsigned_abs z))

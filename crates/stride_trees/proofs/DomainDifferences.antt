@@ -17,18 +17,18 @@ use Rattle.std.proofs.lemmas.Option.{same_Some}
 use Rattle.std.proofs.lemmas.List.{length-map}
 use Rattle.affine_core.specs.declared.form.Form.{Form}
 use Rattle.int_polyhedra.specs.Steps.{floor, quotient_row}
-use Rattle.difference_graphs.specs.Class.{count_of, is_difference}
+use Rattle.tree_graphs.specs.Class.{count_of, is_difference}
 use Rattle.sanlp.specs.Bounds.{BoundsAbove}
 use Rattle.sanlp.specs.WellFormed.{form_fits, is_moderate}
-use Rattle.stride_rows.specs.Class.{is_pair, is_single, stride_of}
+use Rattle.tree_cuts.specs.Class.{is_pair, is_single, stride_of}
 use Rattle.stride_trees.specs.Problem.{problem_rows}
-use Rattle.stride_rows.specs.Sources.{divided_form}
-use Rattle.stride_rows.proofs.Coefficients.{how_many, how_many_is, is_less, is_one, is_other, is_outside, is_trit, none_other}
-use Rattle.stride_rows.proofs.Coefficients.{once, outside_counts}
-use Rattle.stride_rows.proofs.Floors.{floor_multiple}
-use Rattle.stride_rows.proofs.RowSources.{counts_all, single_where}
-use Rattle.stride_rows.proofs.QuotientRows.{stride_positive}
-use Rattle.stride_rows.proofs.CutRows.{get_or-map-floor}
+use Rattle.tree_cuts.specs.Sources.{divided_form}
+use Rattle.tree_cuts.proofs.Coefficients.{how_many, how_many_is, is_less, is_one, is_other, is_outside, is_trit, none_other}
+use Rattle.tree_cuts.proofs.Coefficients.{once, outside_counts}
+use Rattle.tree_cuts.proofs.Floors.{floor_multiple}
+use Rattle.tree_cuts.proofs.RowSources.{counts_all, single_where}
+use Rattle.tree_cuts.proofs.QuotientRows.{stride_positive}
+use Rattle.tree_cuts.proofs.CutRows.{get_or-map-floor}
 
 -- Coefficients without a stride
 

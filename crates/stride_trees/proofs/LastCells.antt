@@ -12,22 +12,22 @@ use Rattle.std.proofs.lemmas.Int.{ints}
 use Rattle.affine_core.proofs.Ring.{difference_times}
 use Rattle.affine_core.specs.declared.form.Form.{Form}
 use Rattle.affine_core.specs.Affine.{variable_form, widened_form}
-use Rattle.row_sums.specs.Made.{parts_of}
-use Rattle.row_sums.specs.Parts.{Part, part_of}
-use Rattle.row_sums.specs.Shown.{RowParts}
+use Rattle.tree_sums.specs.Made.{parts_of}
+use Rattle.tree_sums.specs.Parts.{Part, part_of}
+use Rattle.tree_sums.specs.Shown.{RowParts}
 use Rattle.source_tree.specs.Places.{at_place}
 use Rattle.source_tree.specs.Rows.{RowExpr, Take, minus, one_less}
-use Rattle.stride_rows.specs.Class.{is_single, stride_of}
+use Rattle.tree_cuts.specs.Class.{is_single, stride_of}
 use Rattle.stride_trees.specs.Divisions.{division_of}
 use Rattle.stride_trees.specs.Problem.{problem_read, problem_write}
-use Rattle.stride_rows.specs.Sources.{cell_source, cut_of, falls, is_turned}
-use Rattle.stride_rows.specs.declared.cuts.Source.TheVariants.{Own}
+use Rattle.tree_cuts.specs.Sources.{cell_source, cut_of, falls, is_turned}
+use Rattle.tree_cuts.specs.declared.cuts.Source.TheVariants.{Own}
 use Rattle.stride_trees.proofs.MadeRows.{IsTestRow}
-use Rattle.stride_rows.proofs.Indivisible.{number_part}
+use Rattle.tree_cuts.proofs.Indivisible.{number_part}
 use Rattle.stride_trees.proofs.LastRows.{pair_comes, same_comes, ComesFrom}
 use Rattle.stride_trees.proofs.NoSystems.{stride_rows, AreStrideRows}
 use Rattle.stride_trees.proofs.Quotients.{loop_at, told_less, told_same, told_stride, IsToldLess, IsToldSame, IsToldStride}
-use Rattle.stride_rows.proofs.QuotientRows.{stride_positive}
+use Rattle.tree_cuts.proofs.QuotientRows.{stride_positive}
 
 sign_other : (c : ℤ) → 0 < unsigned_abs c → int_lt (pos 0) c ≡ false → int_lt c (pos 0) ≡ true
 sign_other c some e = grind (arith, ints)

@@ -16,37 +16,37 @@ use Rattle.int_polyhedra.specs.declared.system.Proof.TheVariants.{Sum}
 use Rattle.int_polyhedra.specs.declared.system.Term.{Term}
 use Rattle.int_polyhedra.specs.Rules.{Refutes}
 use Rattle.int_polyhedra.specs.Steps.{floor, quotient_row}
-use Rattle.difference_graphs.proofs.EdgeSums.{over_append}
-use Rattle.difference_graphs.proofs.RowBounds.{forms_append}
+use Rattle.tree_graphs.proofs.EdgeSums.{over_append}
+use Rattle.tree_graphs.proofs.RowBounds.{forms_append}
 use Rattle.plain_data.proofs.Lists.{slice_get-append_left, slice_get-append_right}
-use Rattle.row_sums.specs.Made.{parts_of}
-use Rattle.row_sums.specs.Parts.{Part, the_constant, the_coefficient, part_of, row_part, weight, weighted_sum, IsWithin}
-use Rattle.row_sums.specs.Shown.{RowParts}
-use Rattle.row_sums.proofs.RowParts.{made_has_parts}
-use Rattle.row_sums.proofs.Within.{IsWithin-weaker}
+use Rattle.tree_sums.specs.Made.{parts_of}
+use Rattle.tree_sums.specs.Parts.{Part, the_constant, the_coefficient, part_of, row_part, weight, weighted_sum, IsWithin}
+use Rattle.tree_sums.specs.Shown.{RowParts}
+use Rattle.tree_sums.proofs.RowParts.{made_has_parts}
+use Rattle.tree_sums.proofs.Within.{IsWithin-weaker}
 use Rattle.source_tree.specs.Checked.{IsRefuted}
 use Rattle.source_tree.specs.Places.{at_place}
 use Rattle.source_tree.specs.Rows.{RowExpr, below_zero, row_forms}
 use Rattle.source_tree.specs.Systems.{Context, with_rows}
-use Rattle.stride_rows.specs.Class.{is_pair, is_single}
+use Rattle.tree_cuts.specs.Class.{is_pair, is_single}
 use Rattle.stride_trees.specs.Candidates.{IsCutSumOf}
-use Rattle.stride_rows.specs.Cuts.{added_of, converted_sum, cuts_of, AreSources, IsCutSum}
-use Rattle.stride_rows.specs.Sources.{cut_of, divided_form, own_sources, row_source}
+use Rattle.tree_cuts.specs.Cuts.{added_of, converted_sum, cuts_of, AreSources, IsCutSum}
+use Rattle.tree_cuts.specs.Sources.{cut_of, divided_form, own_sources, row_source}
 use Rattle.stride_trees.specs.Strides.{IsSmallContext}
-use Rattle.stride_rows.specs.declared.cuts.Source.{Source}
-use Rattle.stride_rows.specs.declared.cuts.Source.TheVariants.{Own}
-use Rattle.stride_rows.proofs.Behind.{cuts_behind}
+use Rattle.tree_cuts.specs.declared.cuts.Source.{Source}
+use Rattle.tree_cuts.specs.declared.cuts.Source.TheVariants.{Own}
+use Rattle.tree_cuts.proofs.Behind.{cuts_behind}
 use Rattle.stride_trees.proofs.SourceCuts.{added_all, added_behind, before_both, before_own, cuts_few, TakeBefore}
-use Rattle.stride_rows.proofs.CutRows.{converted_is_cut_sum, converted_refutes, IsMultipleOf}
-use Rattle.stride_rows.proofs.WriterCuts.{outside_multiple}
-use Rattle.stride_rows.proofs.Floors.{floor_shifted}
+use Rattle.tree_cuts.proofs.CutRows.{converted_is_cut_sum, converted_refutes, IsMultipleOf}
+use Rattle.tree_cuts.proofs.WriterCuts.{outside_multiple}
+use Rattle.tree_cuts.proofs.Floors.{floor_shifted}
 use Rattle.stride_trees.proofs.MadeRows.{made_both, AreMadeBoth}
-use Rattle.stride_rows.proofs.Indivisible.{below_one, number_part, once_row}
+use Rattle.tree_cuts.proofs.Indivisible.{below_one, number_part, once_row}
 use Rattle.stride_trees.proofs.Lists.{made_first, IsMadeFirst}
 use Rattle.stride_trees.proofs.RowReach.{made_within, IsMadeWithin, IsReached}
-use Rattle.stride_rows.proofs.RowSources.{cut_told, multiple_as, row_told, same_row, sources_append, stride_divides}
-use Rattle.stride_rows.proofs.RowSources.{IsSmallSystem}
-use Rattle.stride_rows.proofs.QuotientRows.{own_told, stride_positive}
+use Rattle.tree_cuts.proofs.RowSources.{cut_told, multiple_as, row_told, same_row, sources_append, stride_divides}
+use Rattle.tree_cuts.proofs.RowSources.{IsSmallSystem}
+use Rattle.tree_cuts.proofs.QuotientRows.{own_told, stride_positive}
 
 -- the sum of two rows: so many times a row, and a number that comes through the division
 pub two_multiple : (rows : List Form) (d a b : ℕ) (z : RowParts) (less : ℤ) → 0 < d → floor less d ≡ less

@@ -15,21 +15,21 @@ use Rattle.sanlp.proofs.Precedence.{common_loops-same}
 use Rattle.affine_core.specs.declared.form.Form.{Form}
 use Rattle.affine_core.specs.Affine.{form_at}
 use Rattle.int_polyhedra.specs.declared.system.Proof.{Proof}
-use Rattle.difference_graphs.specs.Level.{common_of}
-use Rattle.difference_graphs.specs.Simple.{IsLightSum, IsSimple}
-use Rattle.difference_graphs.specs.Systems.{at_test, at_writer, at_zero, later_systems, none_systems, place_systems, IsCheckedFor}
-use Rattle.difference_graphs.proofs.Just.{later_system, none_system}
-use Rattle.difference_graphs.proofs.OrderEdges.{length_variables}
-use Rattle.difference_graphs.proofs.EdgeSums.{over_append}
-use Rattle.difference_graphs.proofs.RowBounds.{forms_append, small_append, small_equal, small_less}
-use Rattle.difference_graphs.proofs.RowBounds.{AreSmall, AreTaken, IsSmallLevel}
-use Rattle.difference_graphs.proofs.Nodes.{checked_point, checked_test, checked_zero, simple_both, simple_none}
-use Rattle.difference_graphs.proofs.Nodes.{simple_point, AreBothChecked, AreBothSimple, IsCheckedPoint}
+use Rattle.tree_graphs.specs.Level.{common_of}
+use Rattle.tree_graphs.specs.Simple.{IsLightSum, IsSimple}
+use Rattle.tree_graphs.specs.Systems.{at_test, at_writer, at_zero, later_systems, none_systems, place_systems, IsCheckedFor}
+use Rattle.tree_graphs.proofs.Just.{later_system, none_system}
+use Rattle.tree_graphs.proofs.OrderEdges.{length_variables}
+use Rattle.tree_graphs.proofs.EdgeSums.{over_append}
+use Rattle.tree_graphs.proofs.RowBounds.{forms_append, small_append, small_equal, small_less}
+use Rattle.tree_graphs.proofs.RowBounds.{AreSmall, AreTaken, IsSmallLevel}
+use Rattle.tree_graphs.proofs.Nodes.{checked_point, checked_test, checked_zero, simple_both, simple_none}
+use Rattle.tree_graphs.proofs.Nodes.{simple_point, AreBothChecked, AreBothSimple, IsCheckedPoint}
 use Rattle.plain_data.proofs.Tests.{ltb-same}
 use Rattle.plain_data.proofs.Lists.{slice_get-append_some}
-use Rattle.row_sums.specs.Parts.{IsWithin}
-use Rattle.row_sums.proofs.Within.{IsWithin-weaker}
-use Rattle.row_sums.proofs.RowParts.{AreOver-row_forms}
+use Rattle.tree_sums.specs.Parts.{IsWithin}
+use Rattle.tree_sums.proofs.Within.{IsWithin-weaker}
+use Rattle.tree_sums.proofs.RowParts.{AreOver-row_forms}
 use Rattle.source_tree.specs.Checked.{AreRefuted, HaveVariables}
 use Rattle.source_tree.specs.Gives.{gives}
 use Rattle.source_tree.specs.Places.{at_place, before_rows, differ_rows, order_rows}
@@ -47,7 +47,7 @@ use Rattle.stride_trees.specs.Candidates.{AreCutSums, AreNoneCutSums, AreWriterC
 use Rattle.stride_trees.specs.Contexts.{outside_cell_systems, own_system, told_system, AddsConverted}
 use Rattle.stride_trees.specs.Contexts.{AreOrders, AreTestsIn, IsConvertedTree, IsPlaceIn, IsTestedContext}
 use Rattle.stride_trees.specs.Problem.{problem_write, told_read, told_write}
-use Rattle.stride_rows.specs.Sources.{divided_form, next_place, places_behind}
+use Rattle.tree_cuts.specs.Sources.{divided_form, next_place, places_behind}
 use Rattle.stride_trees.specs.Strides.{depth_of_read, depth_of_write, read_of, root_of, write_of, IsStrided}
 use Rattle.stride_trees.specs.declared.strides.Strides.{Strides}
 use Rattle.stride_trees.proofs.ProblemBounds.{are_fitting, AreFitting}

@@ -5,13 +5,13 @@
 use Rattle.std.proofs.Common.{◌≡◌, ◌+◌, ◌*◌, ◌^◌, ◌≤◌, ℕ, List, [], ◌++◌, length, cond, sym, ap, ◌∙◌, arith}
 use Rattle.std.specs.Prelude.{nat_lt}
 use Rattle.std.proofs.lemmas.List.Elements.{All-weaker}
-use Rattle.difference_graphs.specs.Level.{common_of}
-use Rattle.difference_graphs.proofs.OrderEdges.{length_variables}
-use Rattle.difference_graphs.proofs.ZeroSystems.{level_exists, variables_taken}
-use Rattle.difference_graphs.proofs.RowBounds.{are_made, level_at, most_made, small_append}
-use Rattle.difference_graphs.proofs.RowBounds.{AreMade, AreSmall, AreTaken, IsSmallLevel}
-use Rattle.row_sums.specs.Parts.{IsWithin}
-use Rattle.row_sums.proofs.Within.{IsWithin-weaker}
+use Rattle.tree_graphs.specs.Level.{common_of}
+use Rattle.tree_graphs.proofs.OrderEdges.{length_variables}
+use Rattle.tree_graphs.proofs.ZeroSystems.{level_exists, variables_taken}
+use Rattle.tree_graphs.proofs.RowBounds.{are_made, level_at, most_made, small_append}
+use Rattle.tree_graphs.proofs.RowBounds.{AreMade, AreSmall, AreTaken, IsSmallLevel}
+use Rattle.tree_sums.specs.Parts.{IsWithin}
+use Rattle.tree_sums.proofs.Within.{IsWithin-weaker}
 use Rattle.source_tree.specs.Places.{order_rows}
 use Rattle.source_tree.specs.Rows.{RowExpr}
 use Rattle.source_tree.specs.Systems.{Context, Occurrence, reader_place, writer_place}

@@ -8,9 +8,9 @@ use Rattle.std.specs.Option.{option_and_then}
 use Rattle.std.proofs.lemmas.Option.{same_Some, option_and_then_some}
 use Rattle.affine_core.specs.declared.form.Form.{Form}
 use Rattle.int_polyhedra.specs.declared.system.Proof.{Proof}
-use Rattle.row_sums.specs.Made.{parts_of}
-use Rattle.row_sums.specs.Parts.{Part, part_of, row_part}
-use Rattle.row_sums.proofs.RowParts.{made_has_parts}
+use Rattle.tree_sums.specs.Made.{parts_of}
+use Rattle.tree_sums.specs.Parts.{Part, part_of, row_part}
+use Rattle.tree_sums.proofs.RowParts.{made_has_parts}
 use Rattle.source_tree.specs.Checked.{AreRefuted}
 use Rattle.source_tree.specs.Rows.{RowExpr, RowSystem, row_form, row_forms}
 use Rattle.stride_trees.specs.Candidates.{AreCutSums}

@@ -16,24 +16,24 @@ use Rattle.std.proofs.lemmas.Bool.{and_parts}
 use Rattle.affine_core.specs.declared.form.Form.{Form}
 use Rattle.affine_core.specs.Affine.{variable_form, widened_form}
 use Rattle.int_polyhedra.specs.Steps.{floor}
-use Rattle.row_sums.specs.Made.{parts_of}
-use Rattle.row_sums.specs.Parts.{Part, part_of, row_part}
-use Rattle.row_sums.specs.Shown.{RowParts}
-use Rattle.row_sums.proofs.Within.{row_part-some}
+use Rattle.tree_sums.specs.Made.{parts_of}
+use Rattle.tree_sums.specs.Parts.{Part, part_of, row_part}
+use Rattle.tree_sums.specs.Shown.{RowParts}
+use Rattle.tree_sums.proofs.Within.{row_part-some}
 use Rattle.source_tree.specs.Places.{at_place, cell_rows, domain_rows}
 use Rattle.source_tree.specs.Rows.{RowExpr, Take, minus, row_form, row_forms}
-use Rattle.stride_rows.specs.Class.{is_pair, is_single, stride_of}
+use Rattle.tree_cuts.specs.Class.{is_pair, is_single, stride_of}
 use Rattle.stride_trees.specs.Divisions.{division_of}
 use Rattle.stride_trees.specs.Problem.{problem_read, problem_reads, problem_rows, problem_write, problem_writes}
-use Rattle.stride_rows.specs.Sources.{divided_form, falls, loop_of, next_place, places_behind}
-use Rattle.stride_rows.proofs.Floors.{floor_multiple}
-use Rattle.stride_rows.proofs.Indivisible.{number_part}
+use Rattle.tree_cuts.specs.Sources.{divided_form, falls, loop_of, next_place, places_behind}
+use Rattle.tree_cuts.proofs.Floors.{floor_multiple}
+use Rattle.tree_cuts.proofs.Indivisible.{number_part}
 use Rattle.stride_trees.proofs.Lists.{made_first, IsMadeFirst}
 use Rattle.stride_trees.proofs.NoSystems.{stride_rows, AreStrideRows}
 use Rattle.stride_trees.proofs.Quotients.{told_less, told_same, told_stride, IsToldLess, IsToldSame, IsToldStride}
-use Rattle.stride_rows.proofs.Singles.{number_none}
-use Rattle.stride_rows.proofs.Subscripts.{AreStrideTold, IsSubscriptTold}
-use Rattle.stride_rows.proofs.QuotientRows.{stride_positive, AreCellsTold, AreRowsTold}
+use Rattle.tree_cuts.proofs.Singles.{number_none}
+use Rattle.tree_cuts.proofs.Subscripts.{AreStrideTold, IsSubscriptTold}
+use Rattle.tree_cuts.proofs.QuotientRows.{stride_positive, AreCellsTold, AreRowsTold}
 
 -- Rows as they are made
 

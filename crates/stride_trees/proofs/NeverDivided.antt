@@ -19,9 +19,9 @@ use Rattle.int_polyhedra.specs.declared.system.Proof.{Proof}
 use Rattle.int_polyhedra.specs.Rules.{Refutes}
 use Rattle.int_polyhedra.specs.Steps.{floor}
 use Rattle.int_polyhedra.proofs.Floor.{floor_exact}
-use Rattle.row_sums.specs.Parts.{Part, the_constant, the_coefficient, part_of, row_part, IsWithin}
-use Rattle.row_sums.specs.Shown.{RowParts}
-use Rattle.row_sums.proofs.SmallRows.{widened_part}
+use Rattle.tree_sums.specs.Parts.{Part, the_constant, the_coefficient, part_of, row_part, IsWithin}
+use Rattle.tree_sums.specs.Shown.{RowParts}
+use Rattle.tree_sums.proofs.SmallRows.{widened_part}
 use Rattle.source_tree.specs.Checked.{IsRefuted}
 use Rattle.source_tree.specs.Rows.{RowExpr}
 use Rattle.source_tree.specs.Systems.{Context}
@@ -36,7 +36,7 @@ use Rattle.stride_trees.specs.Strides.{depth_of_read, depth_of_write, read_of, w
 use Rattle.stride_trees.specs.Strides.{IsTestOf}
 use Rattle.stride_trees.specs.declared.divisions.Division.{Division}
 use Rattle.stride_trees.specs.declared.strides.Strides.{Strides}
-use Rattle.row_sums.proofs.Within.{part_of-le}
+use Rattle.tree_sums.proofs.Within.{part_of-le}
 use Rattle.stride_trees.proofs.WriteSystems as standing
 use Rattle.stride_trees.proofs.Subscript as subscript
 use Rattle.stride_trees.proofs.Subscript.{AreLoopRows}

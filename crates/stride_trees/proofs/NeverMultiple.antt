@@ -13,9 +13,9 @@ use Rattle.int_polyhedra.specs.Rules.{Refutes}
 use Rattle.int_polyhedra.specs.Steps.{floor}
 use Rattle.int_polyhedra.specs.Systems.{AreOver}
 use Rattle.int_polyhedra.proofs.Floor.{floor_exact}
-use Rattle.row_sums.specs.Parts.{Part, the_constant, the_coefficient, row_part, IsWithin}
-use Rattle.row_sums.specs.Shown.{RowParts}
-use Rattle.stride_rows.proofs.Floors.{divides_multiple, floor_below}
+use Rattle.tree_sums.specs.Parts.{Part, the_constant, the_coefficient, row_part, IsWithin}
+use Rattle.tree_sums.specs.Shown.{RowParts}
+use Rattle.tree_cuts.proofs.Floors.{divides_multiple, floor_below}
 use Rattle.stride_trees.proofs.RoundedRows.{rounded_proof, rounded_refutes}
 
 -- the rows of a cell whose form is never a multiple

@@ -13,19 +13,19 @@ use Rattle.std.proofs.lemmas.Int.{ints}
 use Rattle.affine_core.proofs.Ring.{times_assoc}
 use Rattle.affine_core.specs.declared.form.Form.{Form}
 use Rattle.affine_core.specs.Affine.{form_product, widened_form}
-use Rattle.row_sums.specs.Made.{parts_of}
-use Rattle.row_sums.specs.Parts.{Part, the_constant, the_coefficient, part_of, row_part}
-use Rattle.row_sums.specs.Shown.{RowParts}
-use Rattle.row_sums.proofs.Ideal.{product_part}
-use Rattle.row_sums.proofs.SmallRows.{widened_part}
+use Rattle.tree_sums.specs.Made.{parts_of}
+use Rattle.tree_sums.specs.Parts.{Part, the_constant, the_coefficient, part_of, row_part}
+use Rattle.tree_sums.specs.Shown.{RowParts}
+use Rattle.tree_sums.proofs.Ideal.{product_part}
+use Rattle.tree_sums.proofs.SmallRows.{widened_part}
 use Rattle.source_tree.specs.Places.{at_place}
 use Rattle.source_tree.specs.Rows.{Take, minus, number}
-use Rattle.stride_rows.specs.Class.{is_single, stride_of}
+use Rattle.tree_cuts.specs.Class.{is_single, stride_of}
 use Rattle.stride_trees.specs.Divisions.{division_of}
-use Rattle.stride_rows.specs.Sources.{loop_of}
-use Rattle.stride_rows.proofs.Coefficients.{how_many, how_many_is, is_other}
-use Rattle.stride_rows.proofs.Indivisible.{number_part}
-use Rattle.stride_rows.proofs.Singles.{single_terms, stride_coefficient}
+use Rattle.tree_cuts.specs.Sources.{loop_of}
+use Rattle.tree_cuts.proofs.Coefficients.{how_many, how_many_is, is_other}
+use Rattle.tree_cuts.proofs.Indivisible.{number_part}
+use Rattle.tree_cuts.proofs.Singles.{single_terms, stride_coefficient}
 
 -- Parts
 

@@ -13,30 +13,30 @@ use Rattle.affine_core.specs.declared.form.Form.{Form}
 use Rattle.affine_core.specs.Affine.{variable_form, widened_form}
 use Rattle.int_polyhedra.specs.declared.system.Proof.{Proof}
 use Rattle.int_polyhedra.specs.Rules.{Refutes}
-use Rattle.difference_graphs.proofs.OrderEdges.{variable_within}
+use Rattle.tree_graphs.proofs.OrderEdges.{variable_within}
 use Rattle.plain_data.proofs.Lists.{slice_get-append_left}
-use Rattle.row_sums.specs.Made.{parts_of}
-use Rattle.row_sums.specs.Parts.{Part, part_of, row_part}
-use Rattle.row_sums.specs.Shown.{RowParts}
-use Rattle.row_sums.proofs.Within.{part_of-le}
-use Rattle.row_sums.proofs.MoreVariables.{row_part-widened}
+use Rattle.tree_sums.specs.Made.{parts_of}
+use Rattle.tree_sums.specs.Parts.{Part, part_of, row_part}
+use Rattle.tree_sums.specs.Shown.{RowParts}
+use Rattle.tree_sums.proofs.Within.{part_of-le}
+use Rattle.tree_sums.proofs.MoreVariables.{row_part-widened}
 use Rattle.sanlp.specs.declared.nest.Nest.{Nest}
 use Rattle.source_tree.specs.Checked.{IsRefuted}
 use Rattle.source_tree.specs.Places.{cell_rows, domain_rows}
 use Rattle.source_tree.specs.Rows.{RowExpr, Take, Plus, minus, number, one_less}
 use Rattle.source_tree.specs.Systems.{Context, Occurrence, multiple, with_rows, with_write_at, writer_place}
 use Rattle.source_tree.proofs.RowLists.{length-cell_rows, length-domain_rows}
-use Rattle.stride_rows.specs.Class.{stride_of}
-use Rattle.stride_rows.specs.Cuts.{IsCutSum}
+use Rattle.tree_cuts.specs.Class.{stride_of}
+use Rattle.tree_cuts.specs.Cuts.{IsCutSum}
 use Rattle.stride_trees.specs.Candidates.{order_number, IsCutSumOf}
 use Rattle.stride_trees.specs.Contexts.{own_system, AreMadeSmall, IsNoIn}
 use Rattle.stride_trees.specs.Divisions.{division_of}
-use Rattle.stride_rows.specs.Sources.{loop_of}
+use Rattle.tree_cuts.specs.Sources.{loop_of}
 use Rattle.stride_trees.specs.Strides.{depth_of_read, depth_of_write, read_of, write_of, AreStrided, IsSmallContext, IsStrided, IsTestOf}
 use Rattle.stride_trees.specs.declared.divisions.Division.{Division}
 use Rattle.stride_trees.specs.declared.strides.Strides.{Strides}
-use Rattle.stride_rows.proofs.Indivisible.{indivisible_proof, number_part, undivided_is_cut_sum, undivided_proof}
-use Rattle.stride_rows.proofs.Indivisible.{undivided_refutes, AreUndivided}
+use Rattle.tree_cuts.proofs.Indivisible.{indivisible_proof, number_part, undivided_is_cut_sum, undivided_proof}
+use Rattle.tree_cuts.proofs.Indivisible.{undivided_refutes, AreUndivided}
 use Rattle.stride_trees.proofs.Lists.{forms_count, row_made}
 use Rattle.stride_trees.proofs.WriteSystems as standing
 use Rattle.stride_trees.proofs.Subscript as subscript

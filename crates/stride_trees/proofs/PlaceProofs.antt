@@ -11,11 +11,11 @@ use Rattle.affine_core.specs.declared.form.Form.{Form}
 use Rattle.int_polyhedra.specs.declared.system.Proof.{Proof}
 use Rattle.int_polyhedra.specs.declared.system.Proof.TheVariants.{Sum}
 use Rattle.int_polyhedra.specs.declared.system.Term.{Term}
-use Rattle.difference_graphs.specs.Asked.{IsCell}
-use Rattle.difference_graphs.specs.Simple.{IsLightSum}
-use Rattle.difference_graphs.proofs.ProblemBounds.{form_is, FormFits}
-use Rattle.row_sums.specs.Parts.{weight, IsWithin}
-use Rattle.row_sums.proofs.Within.{IsWithin-weaker}
+use Rattle.tree_graphs.specs.Asked.{IsCell}
+use Rattle.tree_graphs.specs.Simple.{IsLightSum}
+use Rattle.tree_graphs.proofs.ProblemBounds.{form_is, FormFits}
+use Rattle.tree_sums.specs.Parts.{weight, IsWithin}
+use Rattle.tree_sums.proofs.Within.{IsWithin-weaker}
 use Rattle.sanlp.specs.WellFormed.{form_fits}
 use Rattle.source_tree.specs.Checked.{AreRefuted, IsRefuted, HaveVariables}
 use Rattle.source_tree.specs.Places.{at_place}
@@ -23,11 +23,11 @@ use Rattle.source_tree.specs.Rows.{RowExpr, RowSystem, Take, below_zero, minus, 
 use Rattle.source_tree.specs.Systems.{Context}
 use Rattle.source_tree.proofs.Refutations.{AreRefuted-append}
 use Rattle.stride_trees.specs.Candidates.{AreCutSums, IsCutSumOf}
-use Rattle.stride_rows.specs.Class.{is_pair, is_single, is_stride}
+use Rattle.tree_cuts.specs.Class.{is_pair, is_single, is_stride}
 use Rattle.stride_trees.specs.Contexts.{differing, last_system, outside_of, AddsConverted, AreTestsIn, IsPlaceIn}
 use Rattle.stride_trees.specs.Problem.{problem_read, problem_reads, problem_rows, problem_write, problem_writes}
-use Rattle.stride_rows.specs.Sources.{cell_source, divided_form, is_turned, last_converted, next_place, places_behind}
-use Rattle.stride_rows.specs.Sources.{row_source, subscript_converted}
+use Rattle.tree_cuts.specs.Sources.{cell_source, divided_form, is_turned, last_converted, next_place, places_behind}
+use Rattle.tree_cuts.specs.Sources.{row_source, subscript_converted}
 use Rattle.stride_trees.specs.Strides.{IsSmallContext}
 use Rattle.stride_trees.proofs.SourceCuts.{cell_before, row_before, test_before}
 use Rattle.stride_trees.proofs.QuotientProblem.{told_cell, tests_inside}

@@ -8,12 +8,12 @@ use Rattle.std.specs.List.{list_all}
 use Rattle.std.proofs.lemmas.Bool.{and_parts}
 use Rattle.std.proofs.lemmas.List.Elements.{All-nil, All-cons}
 use Rattle.affine_core.specs.declared.form.Form.{Form}
-use Rattle.difference_graphs.proofs.ProblemBounds.{fit_with, form_is, FitWith}
-use Rattle.row_sums.specs.Parts.{IsWithin}
+use Rattle.tree_graphs.proofs.ProblemBounds.{fit_with, form_is, FitWith}
+use Rattle.tree_sums.specs.Parts.{IsWithin}
 use Rattle.sanlp.specs.declared.nest.Nest.{Nest}
 use Rattle.sanlp.specs.WellFormed.{form_fits}
 use Rattle.source_tree.specs.Systems.{Occurrence}
-use Rattle.stride_rows.specs.Class.{is_pair, is_single}
+use Rattle.tree_cuts.specs.Class.{is_pair, is_single}
 use Rattle.stride_trees.specs.Strides.{AreStrided}
 
 abbrev pub AreFitting : Nest → Occurrence → Occurrence → ℕ → Type 0

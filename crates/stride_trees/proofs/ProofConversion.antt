@@ -13,8 +13,8 @@ use Rattle.affine_core.specs.declared.form.Form.{Form}
 use Rattle.int_polyhedra.specs.declared.system.Proof.{Proof}
 use Rattle.int_polyhedra.specs.declared.system.Proof.TheVariants.{Sum}
 use Rattle.int_polyhedra.specs.declared.system.Term.{Term}
-use Rattle.difference_graphs.specs.Simple.{IsLightSum}
-use Rattle.row_sums.specs.Parts.{IsWithin}
+use Rattle.tree_graphs.specs.Simple.{IsLightSum}
+use Rattle.tree_sums.specs.Parts.{IsWithin}
 use Rattle.sanlp.specs.WellFormed.{form_fits}
 use Rattle.source_tree.specs.Checked.{AreRefuted, IsRefuted}
 use Rattle.source_tree.specs.Rows.{RowExpr, RowSystem, below_zero}
@@ -22,15 +22,15 @@ use Rattle.source_tree.specs.Places.{at_place}
 use Rattle.source_tree.specs.Systems.{Context, Occurrence, with_rows}
 use Rattle.source_tree.proofs.Refutations.{AreRefuted-append}
 use Rattle.stride_trees.specs.Candidates.{order_number, AreCutSums, IsCutSumOf}
-use Rattle.stride_rows.specs.Class.{is_pair, is_single}
+use Rattle.tree_cuts.specs.Class.{is_pair, is_single}
 use Rattle.stride_trees.specs.Contexts.{differing, outside_of, own_system, outside_cell_systems, told_system, AddsConverted}
 use Rattle.stride_trees.specs.Contexts.{AreMadeSmall, AreOrders, AreTestsIn, IsPlaceIn, IsSum, IsTestedContext}
-use Rattle.stride_rows.specs.Cuts.{converted_sum}
+use Rattle.tree_cuts.specs.Cuts.{converted_sum}
 use Rattle.stride_trees.specs.Problem.{problem_reads, problem_rows, problem_writes, told_read, told_write}
-use Rattle.stride_rows.specs.Sources.{divided_form, last_converted, next_place, places_behind, row_source}
-use Rattle.stride_rows.specs.Sources.{subscript_converted, write_sources}
+use Rattle.tree_cuts.specs.Sources.{divided_form, last_converted, next_place, places_behind, row_source}
+use Rattle.tree_cuts.specs.Sources.{subscript_converted, write_sources}
 use Rattle.stride_trees.specs.Strides.{depth_of_read, depth_of_write, read_of, root_of, write_of, IsSmallContext, IsStrided}
-use Rattle.stride_rows.specs.declared.cuts.Source.{Source}
+use Rattle.tree_cuts.specs.declared.cuts.Source.{Source}
 use Rattle.stride_trees.specs.declared.strides.Strides.{Strides}
 use Rattle.stride_trees.proofs.SystemConversion.{converted_write, write_cut_sum}
 use Rattle.stride_trees.proofs.ProblemBounds.{are_fitting, AreFitting}

@@ -8,9 +8,9 @@ use Rattle.std.specs.Prelude.{All, nat_lt}
 use Rattle.std.proofs.lemmas.List.{length-take-le, take-append-drop}
 use Rattle.affine_core.specs.declared.form.Form.{Form}
 use Rattle.int_polyhedra.specs.declared.system.Proof.{Proof}
-use Rattle.difference_graphs.specs.Simple.{IsLightSum}
-use Rattle.difference_graphs.specs.Systems.{place_systems}
-use Rattle.row_sums.specs.Parts.{IsWithin}
+use Rattle.tree_graphs.specs.Simple.{IsLightSum}
+use Rattle.tree_graphs.specs.Systems.{place_systems}
+use Rattle.tree_sums.specs.Parts.{IsWithin}
 use Rattle.source_tree.specs.Checked.{AreRefuted}
 use Rattle.source_tree.specs.Systems.{Context}
 use Rattle.stride_trees.specs.Candidates.{AreCutSums, AreWriterCutSums}

@@ -15,36 +15,36 @@ use Rattle.std.proofs.lemmas.List.Elements.{All-nil, All-cons}
 use Rattle.std.proofs.lemmas.Option.{slice_get-map}
 use Rattle.affine_core.specs.declared.form.Form.{Form}
 use Rattle.affine_core.specs.Affine.{form_product, variable_form, widened_form}
-use Rattle.difference_graphs.specs.Asked.{read_of as asked_read, write_of as asked_write, AreCells, IsAsked, IsCell, IsProblem}
-use Rattle.difference_graphs.specs.Class.{count_of, is_shift}
-use Rattle.difference_graphs.specs.Level.{common_of, HasLevel}
-use Rattle.difference_graphs.specs.declared.writes.Writes.{Writes}
-use Rattle.difference_graphs.proofs.ProblemBounds.{form_is, FormFits}
-use Rattle.difference_graphs.proofs.OrderEdges.{variable_over, variable_within}
-use Rattle.difference_graphs.proofs.Small.{negative_over, negative_within}
-use Rattle.row_sums.specs.Parts.{IsWithin}
-use Rattle.row_sums.proofs.SmallRows.{widened_length, widened_part}
-use Rattle.row_sums.proofs.Within.{IsWithin-weaker, IsWithin-from_parts, part_of-le}
+use Rattle.tree_graphs.specs.Asked.{read_of as asked_read, write_of as asked_write, AreCells, IsAsked, IsCell, IsProblem}
+use Rattle.tree_graphs.specs.Class.{count_of, is_shift}
+use Rattle.tree_graphs.specs.Level.{common_of, HasLevel}
+use Rattle.tree_graphs.specs.declared.writes.Writes.{Writes}
+use Rattle.tree_graphs.proofs.ProblemBounds.{form_is, FormFits}
+use Rattle.tree_graphs.proofs.OrderEdges.{variable_over, variable_within}
+use Rattle.tree_graphs.proofs.Small.{negative_over, negative_within}
+use Rattle.tree_sums.specs.Parts.{IsWithin}
+use Rattle.tree_sums.proofs.SmallRows.{widened_length, widened_part}
+use Rattle.tree_sums.proofs.Within.{IsWithin-weaker, IsWithin-from_parts, part_of-le}
 use Rattle.sanlp.proofs.LoopBounds.{bounded_above}
 use Rattle.sanlp.specs.Bounds.{BoundsAbove}
 use Rattle.sanlp.specs.declared.nest.Nest.{Nest}
 use Rattle.sanlp.specs.WellFormed.{form_fits, is_moderate}
 use Rattle.source_tree.specs.Systems.{Context, Occurrence}
-use Rattle.stride_rows.specs.Class.{is_single, is_stride, stride_count, stride_of}
+use Rattle.tree_cuts.specs.Class.{is_single, is_stride, stride_count, stride_of}
 use Rattle.stride_trees.specs.Contexts.{AreTestsIn}
 use Rattle.stride_trees.specs.Problem.{problem_read, problem_reads, problem_rows, problem_write, problem_writes, told_read}
 use Rattle.stride_trees.specs.Problem.{told_write}
-use Rattle.stride_rows.specs.Sources.{divided_form, falls, loop_of, next_place, places_behind}
+use Rattle.tree_cuts.specs.Sources.{divided_form, falls, loop_of, next_place, places_behind}
 use Rattle.stride_trees.specs.Strides.{read_of, write_of, ArePlaces, AreStrided, IsStrided}
 use Rattle.stride_trees.specs.declared.strides.Strides.{Strides}
-use Rattle.stride_rows.proofs.Coefficients.{how_many, how_many_is, is_bit, is_less, is_one, is_other, is_outside}
-use Rattle.stride_rows.proofs.Coefficients.{outside_counts}
+use Rattle.tree_cuts.proofs.Coefficients.{how_many, how_many_is, is_bit, is_less, is_one, is_other, is_outside}
+use Rattle.tree_cuts.proofs.Coefficients.{outside_counts}
 use Rattle.stride_trees.proofs.DomainDifferences.{divided_bounds, rows_differ, rows_fit}
 use Rattle.stride_trees.proofs.ProblemBounds.{are_fitting, AreFitting}
-use Rattle.stride_rows.proofs.Places.{behind_kept, enough_behind, next_kept, stride_has_place}
+use Rattle.tree_cuts.proofs.Places.{behind_kept, enough_behind, next_kept, stride_has_place}
 use Rattle.stride_trees.proofs.NoSystems.{few_others}
-use Rattle.stride_rows.proofs.Singles.{less_counts, loop_inside}
-use Rattle.stride_rows.proofs.RowSources.{counts_all}
+use Rattle.tree_cuts.proofs.Singles.{less_counts, loop_inside}
+use Rattle.tree_cuts.proofs.RowSources.{counts_all}
 use Rattle.stride_trees.proofs.TestForms.{moved_within, widened_test, IsTestForm}
 
 -- The write's subscript

@@ -12,18 +12,18 @@ use Rattle.std.proofs.Math.Nat.{mul-le-mul_right}
 use Rattle.std.proofs.lemmas.Bool.{and_parts}
 use Rattle.affine_core.specs.declared.form.Form.{Form}
 use Rattle.affine_core.specs.Affine.{variable_form}
-use Rattle.difference_graphs.specs.Asked.{AreCells, IsCell}
-use Rattle.difference_graphs.specs.Class.{count_of}
-use Rattle.difference_graphs.proofs.ProblemBounds.{form_is, FormFits}
-use Rattle.difference_graphs.proofs.OrderEdges.{variable_over, variable_within}
-use Rattle.row_sums.proofs.Within.{IsWithin-weaker}
+use Rattle.tree_graphs.specs.Asked.{AreCells, IsCell}
+use Rattle.tree_graphs.specs.Class.{count_of}
+use Rattle.tree_graphs.proofs.ProblemBounds.{form_is, FormFits}
+use Rattle.tree_graphs.proofs.OrderEdges.{variable_over, variable_within}
+use Rattle.tree_sums.proofs.Within.{IsWithin-weaker}
 use Rattle.sanlp.specs.WellFormed.{form_fits}
 use Rattle.source_tree.specs.Places.{at_place, cell_rows, domain_rows, variables}
 use Rattle.source_tree.specs.Rows.{Take, minus}
-use Rattle.stride_rows.specs.Class.{is_pair, is_single}
+use Rattle.tree_cuts.specs.Class.{is_pair, is_single}
 use Rattle.stride_trees.specs.Problem.{problem_rows}
-use Rattle.stride_rows.specs.Sources.{divided_form}
-use Rattle.stride_rows.proofs.Coefficients.{is_bit, is_trit}
+use Rattle.tree_cuts.specs.Sources.{divided_form}
+use Rattle.tree_cuts.proofs.Coefficients.{is_bit, is_trit}
 use Rattle.stride_trees.proofs.DomainDifferences.{divided_difference, divided_fits}
 use Rattle.stride_trees.proofs.RowReach.{minus_reached, placed_reached, reached_farther, taken_reached, AreBounded}
 use Rattle.stride_trees.proofs.RowReach.{AreReached, IsBounded, IsReached}

@@ -21,17 +21,17 @@ use Rattle.affine_core.proofs.Integers.{int_eq-true}
 use Rattle.int_polyhedra.specs.Steps.{floor, quotient_row}
 use Rattle.int_polyhedra.proofs.Floor.{floor_exact}
 use Rattle.sanlp.specs.Loops.{all_hold}
-use Rattle.stride_rows.specs.Class.{is_pair, is_single, stride_of}
+use Rattle.tree_cuts.specs.Class.{is_pair, is_single, stride_of}
 use Rattle.stride_trees.specs.Divisions.{division_of}
 use Rattle.stride_trees.specs.Problem.{problem_read, problem_rows, problem_write}
-use Rattle.stride_rows.specs.Sources.{divided_form, falls, loop_of}
-use Rattle.stride_rows.proofs.Coefficients.{how_many, is_other, none_other, once}
-use Rattle.stride_rows.proofs.Floors.{floor_multiple, floor_shifted}
+use Rattle.tree_cuts.specs.Sources.{divided_form, falls, loop_of}
+use Rattle.tree_cuts.proofs.Coefficients.{how_many, is_other, none_other, once}
+use Rattle.tree_cuts.proofs.Floors.{floor_multiple, floor_shifted}
 use Rattle.stride_trees.proofs.NoSystems.{few_others, positive_sign, negative_sign, times_opposite}
 use Rattle.stride_trees.proofs.Quotients.{read_is, write_is}
-use Rattle.stride_rows.proofs.Singles.{coefficient_of, less_coefficient, stride_coefficient}
-use Rattle.stride_rows.proofs.RowSources.{stride_divides}
-use Rattle.stride_rows.proofs.QuotientRows.{stride_positive}
+use Rattle.tree_cuts.proofs.Singles.{coefficient_of, less_coefficient, stride_coefficient}
+use Rattle.tree_cuts.proofs.RowSources.{stride_divides}
+use Rattle.tree_cuts.proofs.QuotientRows.{stride_positive}
 
 -- Domain rows
 

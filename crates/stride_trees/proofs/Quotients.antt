@@ -7,20 +7,20 @@ use Rattle.std.proofs.Common.{Bool, true, false, cond, refl, ap, ◌∙◌}
 use Rattle.std.specs.Prelude.{Some, None, is_some}
 use Rattle.affine_core.specs.declared.form.Form.{Form}
 use Rattle.affine_core.specs.Affine.{form_product, variable_form, widened_form}
-use Rattle.row_sums.specs.Made.{parts_of}
-use Rattle.row_sums.specs.Parts.{Part, part_of, row_part}
-use Rattle.row_sums.specs.Shown.{RowParts}
-use Rattle.row_sums.proofs.Ideal.{product_part}
-use Rattle.row_sums.proofs.SmallRows.{widened_part}
+use Rattle.tree_sums.specs.Made.{parts_of}
+use Rattle.tree_sums.specs.Parts.{Part, part_of, row_part}
+use Rattle.tree_sums.specs.Shown.{RowParts}
+use Rattle.tree_sums.proofs.Ideal.{product_part}
+use Rattle.tree_sums.proofs.SmallRows.{widened_part}
 use Rattle.source_tree.specs.Places.{at_place}
 use Rattle.source_tree.specs.Rows.{number}
-use Rattle.stride_rows.specs.Class.{is_single, is_stride, stride_of}
+use Rattle.tree_cuts.specs.Class.{is_single, is_stride, stride_of}
 use Rattle.stride_trees.specs.Problem.{problem_read, problem_write}
-use Rattle.stride_rows.specs.Sources.{falls, loop_of}
-use Rattle.stride_rows.proofs.Coefficients.{how_many, is_other, outside_counts}
-use Rattle.stride_rows.proofs.Indivisible.{number_part}
+use Rattle.tree_cuts.specs.Sources.{falls, loop_of}
+use Rattle.tree_cuts.proofs.Coefficients.{how_many, is_other, outside_counts}
+use Rattle.tree_cuts.proofs.Indivisible.{number_part}
 use Rattle.stride_trees.proofs.NoSystems.{few_others, moved_part}
-use Rattle.stride_rows.proofs.Singles.{at_loop, less_coefficient, less_counts, loop_inside, single_terms}
+use Rattle.tree_cuts.proofs.Singles.{at_loop, less_coefficient, less_counts, loop_inside, single_terms}
 
 abbrev pub loop_at : Form → List Form → RowParts
 loop_at write place part = row_part place part (loop_of write.coefs)

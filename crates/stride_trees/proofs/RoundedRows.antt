@@ -21,14 +21,14 @@ use Rattle.int_polyhedra.specs.Steps.{floor}
 use Rattle.int_polyhedra.specs.Systems.{AreOver}
 use Rattle.int_polyhedra.proofs.Variables.{over_more}
 use Rattle.plain_data.proofs.Lists.{slice_get-append_left, slice_get-append_right}
-use Rattle.row_sums.specs.Parts.{Part, the_constant, the_coefficient, part_of, row_part, weighted_sum, IsWithin}
-use Rattle.row_sums.specs.Shown.{RowParts, Shows}
-use Rattle.row_sums.proofs.NegativeSums.{shown_refutes}
-use Rattle.row_sums.proofs.Within.{IsWithin-from_parts}
-use Rattle.stride_rows.specs.declared.cuts.Cut.{Cut}
-use Rattle.stride_rows.proofs.CutRows.{cut_adds, cuts_refute, IsAdded, IsMultipleOf}
-use Rattle.stride_rows.proofs.Floors.{floor_multiple}
-use Rattle.stride_rows.proofs.Indivisible.{once_row, weighted_sum-once}
+use Rattle.tree_sums.specs.Parts.{Part, the_constant, the_coefficient, part_of, row_part, weighted_sum, IsWithin}
+use Rattle.tree_sums.specs.Shown.{RowParts, Shows}
+use Rattle.tree_sums.proofs.NegativeSums.{shown_refutes}
+use Rattle.tree_sums.proofs.Within.{IsWithin-from_parts}
+use Rattle.tree_cuts.specs.declared.cuts.Cut.{Cut}
+use Rattle.tree_cuts.proofs.CutRows.{cut_adds, cuts_refute, IsAdded, IsMultipleOf}
+use Rattle.tree_cuts.proofs.Floors.{floor_multiple}
+use Rattle.tree_cuts.proofs.Indivisible.{once_row, weighted_sum-once}
 
 -- one Cut, and the Sum of what it adds, so many times, and the second row
 abbrev pub rounded_proof : ℤ → ℕ → ℕ → ℕ → Proof

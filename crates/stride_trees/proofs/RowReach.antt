@@ -10,10 +10,10 @@ use Rattle.std.proofs.lemmas.List.Elements.{All-nil, All-cons, All-head, All-tai
 use Rattle.std.proofs.lemmas.Option.{same_Some}
 use Rattle.std.proofs.Math.Nat.{mul-le-mul_right}
 use Rattle.affine_core.specs.declared.form.Form.{Form}
-use Rattle.row_sums.specs.Made.{reach, TakesWithin}
-use Rattle.row_sums.specs.Parts.{IsWithin}
-use Rattle.row_sums.proofs.SmallRows.{small_is_made}
-use Rattle.row_sums.proofs.Within.{IsWithin-weaker}
+use Rattle.tree_sums.specs.Made.{reach, TakesWithin}
+use Rattle.tree_sums.specs.Parts.{IsWithin}
+use Rattle.tree_sums.proofs.SmallRows.{small_is_made}
+use Rattle.tree_sums.proofs.Within.{IsWithin-weaker}
 use Rattle.source_tree.specs.Places.{at_place, plus_terms}
 use Rattle.source_tree.specs.Rows.{RowExpr, Take, Plus, Times, below_zero, minus, number, one_less, row_form, row_forms}
 use Rattle.stride_trees.proofs.Lists.{made_first, IsMadeFirst}

@@ -10,12 +10,12 @@ use Rattle.std.specs.Option.{option_map}
 use Rattle.std.proofs.lemmas.Option.{same_Some, slice_get-map}
 use Rattle.std.proofs.lemmas.Bool.{and_parts}
 use Rattle.affine_core.specs.declared.form.Form.{Form}
-use Rattle.difference_graphs.proofs.ProblemBounds.{form_is, FormFits}
-use Rattle.difference_graphs.proofs.RowBounds.{farther_row, minus_row, most_made, most_placed, most_taken, placed_row}
-use Rattle.difference_graphs.proofs.RowBounds.{taken_row, AreSmall, AreTaken, IsSmallRow, IsTaken}
+use Rattle.tree_graphs.proofs.ProblemBounds.{form_is, FormFits}
+use Rattle.tree_graphs.proofs.RowBounds.{farther_row, minus_row, most_made, most_placed, most_taken, placed_row}
+use Rattle.tree_graphs.proofs.RowBounds.{taken_row, AreSmall, AreTaken, IsSmallRow, IsTaken}
 use Rattle.plain_data.proofs.Tests.{ltb-zero}
 use Rattle.plain_data.proofs.Lists.{slice_get-append_right}
-use Rattle.row_sums.proofs.Within.{IsWithin-weaker}
+use Rattle.tree_sums.proofs.Within.{IsWithin-weaker}
 use Rattle.sanlp.specs.WellFormed.{form_fits}
 use Rattle.source_tree.specs.Places.{at_place, cell_rows, order_rows}
 use Rattle.source_tree.specs.Rows.{RowExpr, Take, equal_rows, minus, one_less}

@@ -16,16 +16,16 @@ use Rattle.affine_core.specs.Affine.{widened_form}
 use Rattle.int_polyhedra.specs.declared.system.Term.{Term}
 use Rattle.source_tree.specs.Rows.{Take, minus}
 use Rattle.source_tree.specs.Systems.{Context, multiple}
-use Rattle.stride_rows.specs.Class.{is_stride, stride_of}
+use Rattle.tree_cuts.specs.Class.{is_stride, stride_of}
 use Rattle.stride_trees.specs.Contexts.{AreTestsIn, IsTestIn}
-use Rattle.stride_rows.specs.Cuts.{added_of, cuts_of, AreSources}
+use Rattle.tree_cuts.specs.Cuts.{added_of, cuts_of, AreSources}
 use Rattle.stride_trees.specs.Divisions.{division_of}
-use Rattle.stride_rows.specs.Sources.{cell_source, cell_sources, cut_of, domain_sources, falls, next_place, own_sources}
-use Rattle.stride_rows.specs.Sources.{places_behind, row_source, subscript_sources, write_sources}
-use Rattle.stride_rows.specs.declared.cuts.Cut.{Cut}
-use Rattle.stride_rows.specs.declared.cuts.Source.{Source}
-use Rattle.stride_rows.specs.declared.cuts.Source.TheVariants.{Own, Added}
-use Rattle.stride_rows.proofs.Indivisible.{once_row, All-once_rows}
+use Rattle.tree_cuts.specs.Sources.{cell_source, cell_sources, cut_of, domain_sources, falls, next_place, own_sources}
+use Rattle.tree_cuts.specs.Sources.{places_behind, row_source, subscript_sources, write_sources}
+use Rattle.tree_cuts.specs.declared.cuts.Cut.{Cut}
+use Rattle.tree_cuts.specs.declared.cuts.Source.{Source}
+use Rattle.tree_cuts.specs.declared.cuts.Source.TheVariants.{Own, Added}
+use Rattle.tree_cuts.proofs.Indivisible.{once_row, All-once_rows}
 
 pub cuts_few : (sources : List Source) → length (cuts_of sources) ≤ length sources
 cuts_few [] = omega arith

@@ -11,13 +11,13 @@ use Rattle.std.specs.Int.RustNames.{int_lt}
 use Rattle.std.proofs.lemmas.Option.{slice_get_within}
 use Rattle.affine_core.specs.declared.form.Form.{Form}
 use Rattle.affine_core.specs.Affine.{variable_form, widened_form}
-use Rattle.difference_graphs.proofs.ProblemBounds.{form_is, FormFits}
-use Rattle.difference_graphs.proofs.OrderEdges.{variable_at, variable_within}
-use Rattle.row_sums.specs.Made.{parts_of}
-use Rattle.row_sums.specs.Parts.{Part, part_of, row_part}
-use Rattle.row_sums.specs.Shown.{RowParts}
+use Rattle.tree_graphs.proofs.ProblemBounds.{form_is, FormFits}
+use Rattle.tree_graphs.proofs.OrderEdges.{variable_at, variable_within}
+use Rattle.tree_sums.specs.Made.{parts_of}
+use Rattle.tree_sums.specs.Parts.{Part, part_of, row_part}
+use Rattle.tree_sums.specs.Shown.{RowParts}
 use Rattle.plain_data.proofs.Lists.{slice_get-append_right}
-use Rattle.row_sums.proofs.Within.{part_of-le}
+use Rattle.tree_sums.proofs.Within.{part_of-le}
 use Rattle.sanlp.proofs.Elements.{list_all_at}
 use Rattle.sanlp.specs.declared.nest.Nest.{Nest}
 use Rattle.sanlp.specs.WellFormed.{form_fits}
@@ -25,17 +25,17 @@ use Rattle.source_tree.specs.Places.{at_place, cell_rows, domain_rows}
 use Rattle.source_tree.specs.Rows.{RowExpr, Take, minus}
 use Rattle.source_tree.specs.Systems.{Context, Occurrence, writer_place}
 use Rattle.source_tree.proofs.RowLists.{length-domain_rows}
-use Rattle.stride_rows.specs.Class.{is_single, stride_of}
+use Rattle.tree_cuts.specs.Class.{is_single, stride_of}
 use Rattle.stride_trees.specs.Contexts.{AreMadeSmall}
 use Rattle.stride_trees.specs.Divisions.{division_of}
-use Rattle.stride_rows.specs.Sources.{loop_of}
+use Rattle.tree_cuts.specs.Sources.{loop_of}
 use Rattle.stride_trees.specs.Strides.{AreStrided, IsSmallContext}
-use Rattle.stride_rows.proofs.Coefficients.{outside_counts}
+use Rattle.tree_cuts.proofs.Coefficients.{outside_counts}
 use Rattle.stride_trees.proofs.ProblemBounds.{AreFitting}
 use Rattle.stride_trees.proofs.Lists.{forms_count, row_made}
 use Rattle.stride_trees.proofs.NoSystems.{stride_rows, AreStrideRows}
 use Rattle.stride_trees.proofs.Rows.{cells_at, AreCellRows}
-use Rattle.stride_rows.proofs.Singles.{loop_inside}
+use Rattle.tree_cuts.proofs.Singles.{loop_inside}
 use Rattle.stride_trees.proofs.WriteSystems as standing
 use Rattle.stride_trees.proofs.TestForms.{stride_is, IsStrideOf}
 

@@ -17,13 +17,13 @@ use Rattle.affine_core.specs.Affine.{variable_form, widened_form}
 use Rattle.int_polyhedra.specs.declared.system.Proof.TheVariants.{Sum}
 use Rattle.int_polyhedra.specs.declared.system.Term.{Term}
 use Rattle.int_polyhedra.specs.Rules.{Refutes}
-use Rattle.difference_graphs.proofs.ProblemBounds.{form_is}
-use Rattle.difference_graphs.proofs.OrderEdges.{variable_part}
-use Rattle.difference_graphs.proofs.RowBounds.{AreMade}
+use Rattle.tree_graphs.proofs.ProblemBounds.{form_is}
+use Rattle.tree_graphs.proofs.OrderEdges.{variable_part}
+use Rattle.tree_graphs.proofs.RowBounds.{AreMade}
 use Rattle.plain_data.proofs.Lists.{slice_get-append_left}
-use Rattle.row_sums.specs.Parts.{Part, part_of, row_part, weight, IsWithin}
-use Rattle.row_sums.proofs.SmallRows.{widened_part}
-use Rattle.row_sums.proofs.MoreVariables.{row_part-widened}
+use Rattle.tree_sums.specs.Parts.{Part, part_of, row_part, weight, IsWithin}
+use Rattle.tree_sums.proofs.SmallRows.{widened_part}
+use Rattle.tree_sums.proofs.MoreVariables.{row_part-widened}
 use Rattle.sanlp.specs.declared.nest.Nest.{Nest}
 use Rattle.sanlp.specs.WellFormed.{form_fits}
 use Rattle.source_tree.specs.Checked.{IsRefuted}
@@ -32,24 +32,24 @@ use Rattle.source_tree.specs.Rows.{RowExpr, RowSystem, Take, minus, row_forms}
 use Rattle.source_tree.specs.Systems.{Context, Occurrence, multiple, with_rows, with_write_at, writer_place}
 use Rattle.source_tree.proofs.RowLists.{length-domain_rows, length-cell_rows}
 use Rattle.stride_trees.specs.Candidates.{order_number, IsCutSumOf}
-use Rattle.stride_rows.specs.Cuts.{added_of, converted_sum, AreSources, IsCutSum}
+use Rattle.tree_cuts.specs.Cuts.{added_of, converted_sum, AreSources, IsCutSum}
 use Rattle.stride_trees.specs.Divisions.{division_of}
 use Rattle.stride_trees.specs.Problem.{problem_reads, problem_rows, problem_write, problem_writes, told_read, told_write}
 use Rattle.stride_trees.specs.Contexts.{AreMadeSmall, AreTestsIn, IsTestIn}
-use Rattle.stride_rows.specs.Sources.{divided_form, domain_sources, next_place, own_sources, places_behind}
-use Rattle.stride_rows.specs.Sources.{subscript_sources, write_sources}
+use Rattle.tree_cuts.specs.Sources.{divided_form, domain_sources, next_place, own_sources, places_behind}
+use Rattle.tree_cuts.specs.Sources.{subscript_sources, write_sources}
 use Rattle.stride_trees.specs.Strides.{AreStrided, IsSmallContext}
-use Rattle.stride_rows.specs.declared.cuts.Source.{Source}
+use Rattle.tree_cuts.specs.declared.cuts.Source.{Source}
 use Rattle.stride_trees.proofs.SourceCuts.{added_all, added_behind, added_both, added_own, cuts_few, sources_count, write_before}
 use Rattle.stride_trees.proofs.QuotientProblem.{tests_inside, told_cells as told_cells_are}
-use Rattle.stride_rows.proofs.CutRows.{converted_is_cut_sum, converted_refutes}
+use Rattle.tree_cuts.proofs.CutRows.{converted_is_cut_sum, converted_refutes}
 use Rattle.stride_trees.proofs.ProblemBounds.{AreFitting}
 use Rattle.stride_trees.proofs.MadeRows.{cells_are_told, made_both, rows_are_told, AreMadeBoth, AreTestRows, IsTestRow, StandAt}
 use Rattle.stride_trees.proofs.Lists.{forms_count, row_made}
-use Rattle.stride_rows.proofs.RowSources.{IsSmallSystem}
+use Rattle.tree_cuts.proofs.RowSources.{IsSmallSystem}
 use Rattle.stride_trees.proofs.WriteSystems as standing
 use Rattle.stride_trees.proofs.WriteSystems.{regroup}
-use Rattle.stride_rows.proofs.QuotientRows.{cells_told, domain_told, write_told, AreCellsTold, AreRowsTold}
+use Rattle.tree_cuts.proofs.QuotientRows.{cells_told, domain_told, write_told, AreCellsTold, AreRowsTold}
 use Rattle.stride_trees.proofs.QuotientReach.{told_cells_reached, told_domain_reached, variables_bounded}
 use Rattle.stride_trees.proofs.RowReach.{made_within, AreBounded}
 

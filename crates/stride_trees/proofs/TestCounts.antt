@@ -10,11 +10,11 @@ use Rattle.std.specs.Option.{option_map_or}
 use Rattle.std.proofs.lemmas.List.Elements.{All-nil, All-cons}
 use Rattle.std.proofs.lemmas.List.Sums.{sum_by-cons}
 use Rattle.affine_core.specs.declared.form.Form.{Form}
-use Rattle.stride_rows.specs.Class.{is_stride, stride_of}
+use Rattle.tree_cuts.specs.Class.{is_stride, stride_of}
 use Rattle.stride_trees.specs.Divisions.{division_of, divisions_from}
 use Rattle.stride_trees.specs.Strides.{tests_of, IsStrided, IsTestOf}
 use Rattle.stride_trees.specs.declared.strides.Strides.{Strides}
-use Rattle.stride_rows.proofs.Coefficients.{once}
+use Rattle.tree_cuts.proofs.Coefficients.{once}
 
 -- a list from this place on
 abbrev StandFrom : List Form → ℕ → List Form → Type 0

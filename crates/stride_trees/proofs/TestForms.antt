@@ -10,14 +10,14 @@ use Rattle.std.proofs.lemmas.Int.{ints}
 use Rattle.std.proofs.lemmas.List.Elements.{All-weaker}
 use Rattle.affine_core.specs.declared.form.Form.{Form}
 use Rattle.affine_core.specs.Affine.{form_product, widened_form}
-use Rattle.difference_graphs.proofs.ProblemBounds.{FormFits}
-use Rattle.difference_graphs.proofs.Small.{negative_over, negative_within}
-use Rattle.row_sums.specs.Parts.{IsWithin}
-use Rattle.row_sums.proofs.SmallRows.{widened_length, widened_part}
-use Rattle.row_sums.proofs.Within.{IsWithin-from_parts, part_of-le}
-use Rattle.stride_rows.specs.Class.{stride_of}
+use Rattle.tree_graphs.proofs.ProblemBounds.{FormFits}
+use Rattle.tree_graphs.proofs.Small.{negative_over, negative_within}
+use Rattle.tree_sums.specs.Parts.{IsWithin}
+use Rattle.tree_sums.proofs.SmallRows.{widened_length, widened_part}
+use Rattle.tree_sums.proofs.Within.{IsWithin-from_parts, part_of-le}
+use Rattle.tree_cuts.specs.Class.{stride_of}
 use Rattle.stride_trees.specs.Divisions.{division_of}
-use Rattle.stride_rows.proofs.Coefficients.{found_passes, found_within}
+use Rattle.tree_cuts.proofs.Coefficients.{found_passes, found_within}
 
 -- a stride of a form with small numbers
 pub record IsStrideOf (c : ℤ) : Type 0 where

@@ -15,15 +15,15 @@ use Rattle.affine_core.specs.Affine.{form_product, form_sum, variable_form, wide
 use Rattle.int_polyhedra.specs.declared.system.Proof.{Proof}
 use Rattle.int_polyhedra.specs.Systems.{AreOver}
 use Rattle.std.proofs.lemmas.Bool.{eq-eqb, and_from}
-use Rattle.difference_graphs.proofs.Just.{none_system, zero_system}
-use Rattle.difference_graphs.proofs.ProblemBounds.{form_is, FormFits}
+use Rattle.tree_graphs.proofs.Just.{none_system, zero_system}
+use Rattle.tree_graphs.proofs.ProblemBounds.{form_is, FormFits}
 use Rattle.plain_data.proofs.Lists.{slice_get-append_right}
-use Rattle.difference_graphs.proofs.EdgeSums.{over_append, over_widened, within_widened}
-use Rattle.difference_graphs.proofs.RowBounds.{forms_append}
-use Rattle.row_sums.specs.Parts.{IsWithin}
-use Rattle.row_sums.proofs.SmallRows.{widened_length}
-use Rattle.row_sums.proofs.RowParts.{made_widens}
-use Rattle.row_sums.proofs.Within.{IsWithin-weaker}
+use Rattle.tree_graphs.proofs.EdgeSums.{over_append, over_widened, within_widened}
+use Rattle.tree_graphs.proofs.RowBounds.{forms_append}
+use Rattle.tree_sums.specs.Parts.{IsWithin}
+use Rattle.tree_sums.proofs.SmallRows.{widened_length}
+use Rattle.tree_sums.proofs.RowParts.{made_widens}
+use Rattle.tree_sums.proofs.Within.{IsWithin-weaker}
 use Rattle.sanlp.proofs.Elements.{list_all_at}
 use Rattle.sanlp.specs.WellFormed.{form_fits}
 use Rattle.source_tree.specs.Checked.{at_divides, at_zero, AreRefuted, IsRefuted}

@@ -20,10 +20,10 @@ use Rattle.affine_core.specs.Affine.{form_at, variable_form, widened_form}
 use Rattle.int_polyhedra.specs.declared.system.Proof.{Proof}
 use Rattle.int_polyhedra.specs.Steps.{floor}
 use Rattle.int_polyhedra.proofs.Floor.{floor_exact}
-use Rattle.difference_graphs.specs.Level.{IsGreatest, WritesBefore}
-use Rattle.difference_graphs.proofs.ProblemBounds.{form_is, FormFits}
-use Rattle.difference_graphs.proofs.OrderEdges.{variable_over}
-use Rattle.row_sums.proofs.SmallRows.{widened_length}
+use Rattle.tree_graphs.specs.Level.{IsGreatest, WritesBefore}
+use Rattle.tree_graphs.proofs.ProblemBounds.{form_is, FormFits}
+use Rattle.tree_graphs.proofs.OrderEdges.{variable_over}
+use Rattle.tree_sums.proofs.SmallRows.{widened_length}
 use Rattle.sanlp.proofs.Elements.{list_all_at}
 use Rattle.sanlp.specs.WellFormed.{form_fits}
 use Rattle.source_tree.specs.Gives.{gives, quotient, values}
@@ -37,16 +37,16 @@ use Rattle.source_tree.specs.declared.tree.Tree.TheViews.{Divides}
 use Rattle.source_tree.proofs.Gives.{gives-Zero, gives-Divides}
 use Rattle.source_tree.proofs.MetRows.{AreMet, AreMet-append}
 use Rattle.stride_trees.specs.Candidates.{HasTests}
-use Rattle.stride_rows.specs.Class.{is_single}
+use Rattle.tree_cuts.specs.Class.{is_single}
 use Rattle.stride_trees.specs.Contexts.{AreTestsIn, IsTestIn}
 use Rattle.stride_trees.specs.Divisions.{divided_context, division_of}
 use Rattle.stride_trees.specs.Problem.{problem_reads, problem_writes, told_read, told_write}
-use Rattle.stride_rows.specs.Sources.{loop_of, next_place, places_behind}
+use Rattle.tree_cuts.specs.Sources.{loop_of, next_place, places_behind}
 use Rattle.stride_trees.specs.Strides.{depth_of_read, read_of, root_of, write_of, IsStrided, IsTestOf}
 use Rattle.stride_trees.specs.declared.divisions.Division.{Division}
 use Rattle.stride_trees.specs.declared.strides.Strides.{Strides}
 use Rattle.stride_trees.proofs.ProblemBounds.{are_fitting, AreFitting}
-use Rattle.stride_rows.proofs.Floors.{divides_multiple}
+use Rattle.tree_cuts.proofs.Floors.{divides_multiple}
 use Rattle.stride_trees.proofs.TestForms.{test_form}
 use Rattle.stride_trees.proofs.TestNodes.{divisor_is, form_small, of_stride}
 use Rattle.stride_trees.proofs.QuotientValues.{rows_hold, subscript_means, test_value}

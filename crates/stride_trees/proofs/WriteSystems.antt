@@ -11,14 +11,14 @@ use Rattle.std.proofs.lemmas.List.Elements.{All-append, All-weaker}
 use Rattle.std.proofs.lemmas.Option.{slice_get_within}
 use Rattle.affine_core.specs.declared.form.Form.{Form}
 use Rattle.affine_core.specs.Affine.{widened_form}
-use Rattle.difference_graphs.proofs.OrderEdges.{length_variables}
-use Rattle.difference_graphs.proofs.ZeroSystems.{variables_taken}
-use Rattle.difference_graphs.proofs.EdgeSums.{over_append, over_widened, within_widened}
-use Rattle.difference_graphs.proofs.RowBounds.{are_made, forms_append, most_made, small_domain, AreMade, AreTaken}
+use Rattle.tree_graphs.proofs.OrderEdges.{length_variables}
+use Rattle.tree_graphs.proofs.ZeroSystems.{variables_taken}
+use Rattle.tree_graphs.proofs.EdgeSums.{over_append, over_widened, within_widened}
+use Rattle.tree_graphs.proofs.RowBounds.{are_made, forms_append, most_made, small_domain, AreMade, AreTaken}
 use Rattle.plain_data.proofs.Lists.{slice_get-append_left, slice_get-append_right}
-use Rattle.row_sums.specs.Parts.{IsWithin}
-use Rattle.row_sums.proofs.RowParts.{made_widens, AreOver-row_forms}
-use Rattle.row_sums.proofs.Within.{IsWithin-weaker}
+use Rattle.tree_sums.specs.Parts.{IsWithin}
+use Rattle.tree_sums.proofs.RowParts.{made_widens, AreOver-row_forms}
+use Rattle.tree_sums.proofs.Within.{IsWithin-weaker}
 use Rattle.sanlp.specs.declared.nest.Nest.{Nest}
 use Rattle.source_tree.specs.Places.{cell_rows, domain_rows}
 use Rattle.source_tree.specs.Rows.{RowExpr, RowSystem, row_forms}
@@ -30,7 +30,7 @@ use Rattle.stride_trees.proofs.ProblemBounds.{are_fitting, AreFitting}
 use Rattle.stride_trees.proofs.MadeRows.{StandAt}
 use Rattle.stride_trees.proofs.Lists.{forms_count}
 use Rattle.stride_trees.proofs.Rows.{small_cells}
-use Rattle.stride_rows.proofs.RowSources.{IsSmallSystem}
+use Rattle.tree_cuts.proofs.RowSources.{IsSmallSystem}
 
 pub stand_behind : (front rows more : List Form) → StandAt (front ++ (rows ++ more)) (length front) rows
 stand_behind front rows more i row is =

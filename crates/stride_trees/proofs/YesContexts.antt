@@ -13,14 +13,14 @@ use Rattle.affine_core.specs.declared.form.Form.{Form}
 use Rattle.affine_core.specs.Affine.{widened_form}
 use Rattle.int_polyhedra.specs.declared.system.System.{System}
 use Rattle.int_polyhedra.specs.Systems.{AreOver}
-use Rattle.difference_graphs.specs.Contexts.{IsMadeAs}
+use Rattle.tree_graphs.specs.Contexts.{IsMadeAs}
 use Rattle.lex_max.specs.Leaves.{IsMadeFrom}
-use Rattle.difference_graphs.proofs.MadeRows.{are_root, AreRoot}
+use Rattle.tree_graphs.proofs.MadeRows.{are_root, AreRoot}
 use Rattle.plain_data.proofs.Lists.{slice_get-append_some, slice_get-append_right}
-use Rattle.row_sums.specs.Parts.{IsWithin}
+use Rattle.tree_sums.specs.Parts.{IsWithin}
 use Rattle.source_tree.specs.Rows.{RowExpr, Take, minus}
 use Rattle.source_tree.specs.Systems.{Context, divided_rows, divides_yes, multiple, root_context}
-use Rattle.stride_rows.specs.Class.{stride_of}
+use Rattle.tree_cuts.specs.Class.{stride_of}
 use Rattle.stride_trees.specs.Answers.{HasSmallRows}
 use Rattle.stride_trees.specs.Contexts.{AreTestsIn, IsTestIn}
 use Rattle.stride_trees.specs.Divisions.{divided_context, division_of, divisions_from}

@@ -3,14 +3,14 @@ use Rattle.std.specs.Prelude.{◌≡◌, ◌^◌, ◌+◌, ℕ, List, [], ◌∷
 use Rattle.affine_core.specs.declared.form.Form.{Form}
 use Rattle.affine_core.specs.Affine.{widened_form}
 use Rattle.int_polyhedra.specs.declared.system.Proof.{Proof}
-use Rattle.difference_graphs.specs.Systems.{later_systems, none_systems}
-use Rattle.row_sums.specs.Parts.{IsWithin}
+use Rattle.tree_graphs.specs.Systems.{later_systems, none_systems}
+use Rattle.tree_sums.specs.Parts.{IsWithin}
 use Rattle.source_tree.specs.Rows.{RowSystem, row_forms}
 use Rattle.source_tree.specs.Systems.{Context, Occurrence, after_systems, cell_systems, divides_no, divides_yes, outside_systems, root_context, test_no, test_yes, with_write_at}
 use Rattle.source_tree.specs.declared.tree.Tree.{Tree}
 use Rattle.source_tree.specs.declared.tree.Tree.TheVariants.{Writer, Zero}
 use Rattle.source_tree.specs.declared.tree.Tree.TheViews.{Divides, Test}
-use Rattle.stride_rows.specs.Cuts.{IsCutSum}
+use Rattle.tree_cuts.specs.Cuts.{IsCutSum}
 use Rattle.stride_trees.specs.Divisions.{divided_context, divisions_from}
 use Rattle.stride_trees.specs.declared.divisions.Division.{Division}
 

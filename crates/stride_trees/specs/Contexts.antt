@@ -8,11 +8,11 @@ use Rattle.int_polyhedra.specs.declared.system.Proof.TheVariants.{Sum}
 use Rattle.int_polyhedra.specs.declared.system.System.{System}
 use Rattle.int_polyhedra.specs.declared.system.Term.{Term}
 use Rattle.lex_max.specs.Answer.{IsAnswer}
-use Rattle.difference_graphs.specs.Asked.{read_of as asked_read, write_of as asked_write}
-use Rattle.difference_graphs.specs.Simple.{IsLightSum, IsSimple}
-use Rattle.difference_graphs.specs.Systems.{IsCheckedFor}
-use Rattle.difference_graphs.specs.declared.writes.Writes.{Writes}
-use Rattle.row_sums.specs.Parts.{IsWithin}
+use Rattle.tree_graphs.specs.Asked.{read_of as asked_read, write_of as asked_write}
+use Rattle.tree_graphs.specs.Simple.{IsLightSum, IsSimple}
+use Rattle.tree_graphs.specs.Systems.{IsCheckedFor}
+use Rattle.tree_graphs.specs.declared.writes.Writes.{Writes}
+use Rattle.tree_sums.specs.Parts.{IsWithin}
 use Rattle.source_tree.specs.Checked.{AreRefuted, HaveVariables}
 use Rattle.source_tree.specs.Gives.{gives}
 use Rattle.source_tree.specs.Places.{at_place, differ_rows}
@@ -20,10 +20,10 @@ use Rattle.source_tree.specs.Rows.{RowExpr, RowSystem, Take, below_zero, minus, 
 use Rattle.source_tree.specs.Systems.{Context, Occurrence, cell_systems, multiple, outside_systems, undivided_rows, with_rows, with_write_at}
 use Rattle.source_tree.specs.declared.tree.Tree.{Tree}
 use Rattle.stride_trees.specs.Candidates.{AreCutSums, IsCutTree}
-use Rattle.stride_rows.specs.Class.{stride_of}
+use Rattle.tree_cuts.specs.Class.{stride_of}
 use Rattle.stride_trees.specs.Divisions.{division_of}
 use Rattle.stride_trees.specs.Problem.{told_read, told_write}
-use Rattle.stride_rows.specs.Sources.{next_place, places_behind}
+use Rattle.tree_cuts.specs.Sources.{next_place, places_behind}
 use Rattle.stride_trees.specs.Strides.{depth_of_read, read_of, root_of, tests_of, write_of, IsSmallContext}
 use Rattle.stride_trees.specs.declared.divisions.Division.{Division}
 use Rattle.stride_trees.specs.declared.strides.Strides.{Strides}

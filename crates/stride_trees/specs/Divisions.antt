@@ -7,7 +7,7 @@ use Rattle.affine_core.specs.declared.form.Form.{Form}
 use Rattle.affine_core.specs.Affine.{form_product, widened_form}
 use Rattle.source_tree.specs.Systems.{Context, divides_yes}
 use Rattle.source_tree.specs.Walk.{divides}
-use Rattle.stride_rows.specs.Class.{stride_of}
+use Rattle.tree_cuts.specs.Class.{stride_of}
 use Rattle.stride_trees.specs.declared.divisions.Division.{Division}
 
 -- the form with the sign of a number

@@ -4,8 +4,8 @@ use Rattle.std.specs.Prelude.{ℕ, ◌+◌, negsuc, ◌-ℤ◌, ◌||◌, List, 
 use Rattle.affine_core.specs.declared.form.Form.{Form}
 use Rattle.affine_core.specs.Affine.{form_product, variable_form, widened_form}
 use Rattle.source_tree.specs.Systems.{Occurrence}
-use Rattle.stride_rows.specs.Class.{is_stride}
-use Rattle.stride_rows.specs.Sources.{divided_form, falls, loop_of, next_place, places_behind}
+use Rattle.tree_cuts.specs.Class.{is_stride}
+use Rattle.tree_cuts.specs.Sources.{divided_form, falls, loop_of, next_place, places_behind}
 
 -- A subscript of the write: its loop alone, where the loop's coefficient is neither 0 nor 1; else it stays.
 abbrev pub problem_write : Form → Form

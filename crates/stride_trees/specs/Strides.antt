@@ -4,8 +4,8 @@ use Rattle.affine_core.specs.declared.form.Form.{Form}
 use Rattle.affine_core.specs.Affine.{widened_form}
 use Rattle.int_polyhedra.specs.declared.system.Proof.{Proof}
 use Rattle.int_polyhedra.specs.Systems.{AreOver}
-use Rattle.difference_graphs.specs.Level.{common_of, HasLevel, IsGreatest}
-use Rattle.row_sums.specs.Parts.{IsWithin}
+use Rattle.tree_graphs.specs.Level.{common_of, HasLevel, IsGreatest}
+use Rattle.tree_sums.specs.Parts.{IsWithin}
 use Rattle.sanlp.specs.declared.nest.Nest.{Nest}
 use Rattle.source_tree.specs.Gives.{gives}
 use Rattle.source_tree.specs.Rows.{row_at, row_forms}
@@ -14,7 +14,7 @@ use Rattle.source_tree.specs.Systems.{Context, Occurrence, divides_no, just, nam
 use Rattle.source_tree.specs.declared.tree.Tree.{Tree}
 use Rattle.source_tree.specs.declared.tree.Tree.TheVariants.{Zero}
 use Rattle.source_tree.specs.References.{occurrence_of}
-use Rattle.stride_rows.specs.Class.{stride_count, stride_of, writes_strides}
+use Rattle.tree_cuts.specs.Class.{stride_count, stride_of, writes_strides}
 use Rattle.stride_trees.specs.Candidates.{AreNoneCutSums, HasTests, IsCutTree}
 use Rattle.stride_trees.specs.Divisions.{divided_context, division_of, divisions_from}
 use Rattle.stride_trees.specs.declared.divisions.Division.{Division}

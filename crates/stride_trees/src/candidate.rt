@@ -2,14 +2,14 @@
 
 ghost use Rattle.std.specs.Prelude.{◌≡◌, ◌≤◌, ◌+◌, ◌++◌, Some, IfOk, OnOk};
 ghost use Rattle.std.specs.List.{range_with_len};
-ghost use Rattle.difference_graphs.specs.Asked.{HasLevelOf, WritesArrayOf};
+ghost use Rattle.tree_graphs.specs.Asked.{HasLevelOf, WritesArrayOf};
 ghost use Rattle.lex_max.specs.Leaves.{IsMadeFrom};
-ghost use Rattle.difference_graphs.specs.Level.{common_of, GivesGreatest};
+ghost use Rattle.tree_graphs.specs.Level.{common_of, GivesGreatest};
 ghost use Rattle.source_tree.specs.Checked.{IsCheckedIn};
 ghost use Rattle.source_tree.specs.Systems.{just, named_write, read_at, root_context, Occurrence};
 ghost use Rattle.source_tree.specs.declared.tree.Tree.{Tree as TreeOf};
 ghost use Rattle.stride_trees.specs.Candidates.{IsStrideTree};
-ghost use Rattle.stride_rows.specs.Class.{IsInStrideClass};
+ghost use Rattle.tree_cuts.specs.Class.{IsInStrideClass};
 ghost use Rattle.stride_trees.specs.Contexts.{first_places, IsToldTree};
 ghost use Rattle.stride_trees.specs.Strides.{depth_of_read, read_of, root_of, tested_context, tests_of, write_of, IsLastTree, IsStrided, IsTested};
 ghost use Rattle.source_tree.specs.References.{occurrence_of};

@@ -1,6 +1,6 @@
 ghost use Rattle.std.specs.Prelude.{◌≡◌, ◌≤◌, ◌<◌, ◌+◌, ◌++◌, ◌^◌, ℕ, true, false, [], ◌∷◌, length, map, unsigned_abs, All, IfOk, OnOk};
 ghost use Rattle.affine_core.specs.Affine.{form_product, variable_form, widened_form};
-ghost use Rattle.difference_graphs.specs.Contexts.{IsMadeAs};
+ghost use Rattle.tree_graphs.specs.Contexts.{IsMadeAs};
 ghost use Rattle.lex_max.specs.Leaves.{IsMadeFrom};
 ghost use Rattle.source_tree.specs.Systems.{root_context, Context};
 ghost use Rattle.stride_trees.specs.Answers.{below_answer, HasSmallRows, IsSmallTest};
@@ -10,10 +10,10 @@ ghost use Rattle.stride_trees.specs.Strides.{depth_of_read, read_of, tests_of, I
 use crate::divisions::Division;
 use crate::strides::Strides;
 use affine_core::{Form, Overflow, Row};
-use difference_graphs::{difference, raised};
 use int_polyhedra::System;
 use plain_data::Items;
 use std::alloc::{AllocError, Global};
+use tree_graphs::{difference, raised};
 
 // Adds the rows.
 fn push_copies(out: &mut Items<Row>, rows: &[Row]) -> Result<(), AllocError>

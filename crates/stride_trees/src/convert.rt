@@ -4,18 +4,18 @@ ghost use Rattle.std.specs.Prelude.{◌≡◌, ◌≤◌, ◌<◌, ◌||◌, ◌
 ghost use Rattle.std.specs.List.{list_all};
 ghost use Rattle.affine_core.specs.declared.form.Form.{Form as FormOf};
 ghost use Rattle.int_polyhedra.specs.declared.system.Term.{Term as TermOf};
-ghost use Rattle.difference_graphs.specs.Simple.{IsLightSum};
-ghost use Rattle.row_sums.specs.Parts.{IsWithin};
+ghost use Rattle.tree_graphs.specs.Simple.{IsLightSum};
+ghost use Rattle.tree_sums.specs.Parts.{IsWithin};
 ghost use Rattle.sanlp.specs.WellFormed.{form_fits};
 ghost use Rattle.source_tree.specs.Checked.{AreRefuted, IsRefuted};
 ghost use Rattle.source_tree.specs.Rows.{RowExpr};
 ghost use Rattle.source_tree.specs.Systems.{Context};
 ghost use Rattle.stride_trees.specs.Candidates.{order_number, AreCutSums, IsCutSumOf};
-ghost use Rattle.stride_rows.specs.Class.{is_pair, is_single};
+ghost use Rattle.tree_cuts.specs.Class.{is_pair, is_single};
 ghost use Rattle.stride_trees.specs.Contexts.{differing, outside_of, own_system, outside_cell_systems, told_system, AddsConverted, AreMadeSmall, AreTestsIn, IsPlaceIn, IsSum, IsTestedContext};
-ghost use Rattle.stride_rows.specs.Cuts.{converted_sum};
+ghost use Rattle.tree_cuts.specs.Cuts.{converted_sum};
 ghost use Rattle.stride_trees.specs.Problem.{problem_reads, problem_rows, problem_writes, told_read, told_write};
-ghost use Rattle.stride_rows.specs.Sources.{cell_source as cell_source_of, last_converted, subscript_converted, write_sources as write_sources_of};
+ghost use Rattle.tree_cuts.specs.Sources.{cell_source as cell_source_of, last_converted, subscript_converted, write_sources as write_sources_of};
 ghost use Rattle.stride_trees.specs.Strides.{depth_of_read, depth_of_write, read_of, root_of, write_of, IsSmallContext, IsStrided};
 
 use crate::strides::Strides;
@@ -23,7 +23,7 @@ use affine_core::{Form, Row};
 use int_polyhedra::{Proof, Term};
 use plain_data::Items;
 use std::alloc::{AllocError, Global};
-use stride_rows::{
+use tree_cuts::{
     Source, cell_source, converted, is_turned, next_test, places_behind, row_source, write_sources,
 };
 

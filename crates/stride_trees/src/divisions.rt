@@ -1,14 +1,14 @@
 ghost use Rattle.std.specs.Prelude.{◌≡◌, ◌≤◌, ◌<◌, ◌+◌, ◌-ℤ◌, ◌^◌, [], ◌∷◌, ◌++◌, unsigned_abs, length, All, IfOk, OnOk};
 ghost use Rattle.std.specs.Option.{option_map_or};
-ghost use Rattle.row_sums.specs.Parts.{IsWithin};
-ghost use Rattle.stride_rows.specs.Class.{stride_of as stride_of_form};
+ghost use Rattle.tree_sums.specs.Parts.{IsWithin};
+ghost use Rattle.tree_cuts.specs.Class.{stride_of as stride_of_form};
 ghost use Rattle.stride_trees.specs.Divisions.{division_of, divisions_from};
 
 use affine_core::Form;
-use difference_graphs::negative;
 use plain_data::Items;
 use std::alloc::{AllocError, Global};
-use stride_rows::small_stride;
+use tree_cuts::small_stride;
+use tree_graphs::negative;
 
 /// The test whether a write's subscript `c v + d` can be that of a read: the divisor is the size of c, and the form is
 /// `read - d`, taken with the sign of c. `rises` says whether c is above 0.

@@ -2,9 +2,9 @@
 
 ghost use Rattle.std.specs.Prelude.{◌≡◌, ◌≤◌, ◌<◌, ◌+◌, ◌*◌, ◌^◌, ◌++◌, ℕ, List, length, map, All, IfOk, OnOk};
 ghost use Rattle.affine_core.specs.declared.form.Form.{Form as FormOf};
-ghost use Rattle.difference_graphs.specs.Simple.{IsLightSum, IsSimple};
-ghost use Rattle.difference_graphs.specs.Systems.{none_systems, place_systems, IsCheckedFor};
-ghost use Rattle.row_sums.specs.Parts.{IsWithin};
+ghost use Rattle.tree_graphs.specs.Simple.{IsLightSum, IsSimple};
+ghost use Rattle.tree_graphs.specs.Systems.{none_systems, place_systems, IsCheckedFor};
+ghost use Rattle.tree_sums.specs.Parts.{IsWithin};
 ghost use Rattle.source_tree.specs.Checked.{AreRefuted};
 ghost use Rattle.source_tree.specs.Rows.{RowExpr};
 ghost use Rattle.source_tree.specs.Systems.{Context};
@@ -17,11 +17,11 @@ use crate::convert::{back, converted_place, converted_write, front, sum_terms};
 use crate::strides::Strides;
 use crate::undivided::order_row_count;
 use affine_core::KeptForm;
-use difference_graphs::test;
 use int_polyhedra::Proof;
 use plain_data::Items;
 use source_tree::Tree;
 use std::alloc::{AllocError, Global};
+use tree_graphs::test;
 
 // Adds the proofs that the reader is not before a place and not at it: they are the same.
 fn push_after(proofs: &mut Items<Proof>, alloc: Global, told: &[Proof]) -> Result<(), AllocError>

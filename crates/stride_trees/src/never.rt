@@ -4,7 +4,7 @@
 ghost use Rattle.std.specs.Prelude.{◌≡◌, ◌≤◌, ◌≤ℤ◌, ◌+◌, ◌^◌, [], ◌∷◌, pos, List, length, unsigned_abs, IfOk, IsTrue};
 ghost use Rattle.std.specs.List.{list_all};
 ghost use Rattle.int_polyhedra.specs.declared.system.Proof.TheViews.{Cut as CutOf};
-ghost use Rattle.difference_graphs.specs.Paths.{term_of};
+ghost use Rattle.tree_graphs.specs.Paths.{term_of};
 ghost use Rattle.source_tree.specs.Checked.{IsRefuted};
 ghost use Rattle.source_tree.specs.Rows.{RowExpr};
 ghost use Rattle.source_tree.specs.Systems.{Context};
@@ -18,10 +18,10 @@ use crate::common_divisors::common_divisor;
 use crate::divisions::Division;
 use crate::strides::Strides;
 use crate::undivided::{row_above, row_below};
-use difference_graphs::once;
 use int_polyhedra::{Proof, Term, by_cut};
 use plain_data::Items;
 use std::alloc::{AllocError, Global};
+use tree_graphs::once;
 
 /// Whether a divisor divides a number.
 pub fn divides(value: i128, divisor: i128) -> bool

@@ -1,21 +1,21 @@
 ghost use Rattle.std.specs.Prelude.{◌≡◌, ◌≤◌, ◌<◌, ◌+◌, ◌^◌, ◌++◌, ◌||◌, ℕ, List, length, All, IfOk, IsTrue, OnOk};
 ghost use Rattle.std.specs.List.{count_by};
 ghost use Rattle.affine_core.specs.Affine.{variable_form};
-ghost use Rattle.difference_graphs.specs.Asked.{read_of as asked_read, write_of as asked_write, IsAsked};
-ghost use Rattle.row_sums.specs.Parts.{IsWithin};
-ghost use Rattle.stride_rows.specs.Class.{is_stride};
+ghost use Rattle.tree_graphs.specs.Asked.{read_of as asked_read, write_of as asked_write, IsAsked};
+ghost use Rattle.tree_sums.specs.Parts.{IsWithin};
+ghost use Rattle.tree_cuts.specs.Class.{is_stride};
 ghost use Rattle.stride_trees.specs.Problem.{problem_read as read_told, problem_reads, problem_rows, problem_write as write_told, problem_writes, told_read, told_write};
-ghost use Rattle.stride_rows.specs.Sources.{divided_form, falls as falls_of, loop_of as loop_of_coefs};
+ghost use Rattle.tree_cuts.specs.Sources.{divided_form, falls as falls_of, loop_of as loop_of_coefs};
 ghost use Rattle.stride_trees.specs.Strides.{depth_of_read, read_of, write_of, ArePlaces, IsStrided};
 
 use crate::divisions::moved;
 use crate::strides::Strides;
 use affine_core::{Form, Row};
-use difference_graphs::{Writes, negative};
 use int_polyhedra::quotients;
 use plain_data::Items;
 use std::alloc::{AllocError, Global};
-use stride_rows::{falls, next_quotient, places_behind, size, small_stride, stride_of};
+use tree_cuts::{falls, next_quotient, places_behind, size, small_stride, stride_of};
+use tree_graphs::{Writes, negative};
 
 // A domain row, divided by the size of its coefficient outside -1 to 1, if it has one.
 fn divided_row(row: &Row) -> Row

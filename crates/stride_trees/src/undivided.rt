@@ -2,7 +2,7 @@
 
 ghost use Rattle.std.specs.Prelude.{◌≡◌, ◌≤◌, ◌<◌, ◌+◌, ◌*◌, ◌^◌, [], ◌∷◌, ℕ, List, length, nat_lt, IfOk, if◌then◌else◌};
 ghost use Rattle.int_polyhedra.specs.declared.system.Proof.TheViews.{Cut as CutOf};
-ghost use Rattle.difference_graphs.specs.Paths.{term_of};
+ghost use Rattle.tree_graphs.specs.Paths.{term_of};
 ghost use Rattle.source_tree.specs.Checked.{IsRefuted};
 ghost use Rattle.source_tree.specs.Rows.{RowExpr};
 ghost use Rattle.source_tree.specs.Systems.{Context};

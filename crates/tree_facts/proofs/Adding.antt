@@ -17,13 +17,13 @@ use Rattle.affine_core.specs.declared.form.Form.{Form}
 use Rattle.affine_core.specs.Affine.{constant_form, form_product, form_sum}
 use Rattle.affine_core.specs.Within.{form_in_128_bits}
 use Rattle.int_polyhedra.specs.declared.system.Term.{Term}
-use Rattle.difference_graphs.proofs.EdgeSums.{over_append}
+use Rattle.tree_graphs.proofs.EdgeSums.{over_append}
 use Rattle.int_polyhedra.specs.Steps.{quotient_row, sum_onto}
 use Rattle.int_polyhedra.specs.Systems.{AreOver}
 use Rattle.int_polyhedra.specs.declared.system.System.{System}
-use Rattle.row_sums.specs.Parts.{IsWithin}
-use Rattle.stride_rows.specs.Cuts.{AddRows, AddsRow}
-use Rattle.stride_rows.specs.declared.cuts.Cut.{Cut}
+use Rattle.tree_sums.specs.Parts.{IsWithin}
+use Rattle.tree_cuts.specs.Cuts.{AddRows, AddsRow}
+use Rattle.tree_cuts.specs.declared.cuts.Cut.{Cut}
 use Rattle.tree_facts.specs.Facts.{AreFacts, IsFactOf}
 use Rattle.tree_facts.specs.Sums.{IsSumOnto}
 use Rattle.tree_facts.specs.declared.search.Facts.{Facts}

@@ -10,9 +10,9 @@ use Rattle.affine_core.specs.declared.form.Form.{Form}
 use Rattle.int_polyhedra.specs.declared.system.Proof.{Proof}
 use Rattle.int_polyhedra.specs.declared.system.Proof.TheViews as proof
 use Rattle.int_polyhedra.specs.Rules.{by_cut, Refutes}
-use Rattle.stride_rows.specs.Cuts.{AddRows, AddsRow}
-use Rattle.stride_rows.specs.declared.cuts.Cut.{Cut}
-use Rattle.stride_rows.proofs.CutRows.{adds_behind, add_behind}
+use Rattle.tree_cuts.specs.Cuts.{AddRows, AddsRow}
+use Rattle.tree_cuts.specs.declared.cuts.Cut.{Cut}
+use Rattle.tree_cuts.proofs.CutRows.{adds_behind, add_behind}
 use Rattle.tree_facts.specs.Behind.{proof_behind}
 use Rattle.tree_facts.specs.Cuts.{proof_by_cut, proof_by_cuts}
 use Rattle.tree_facts.proofs.Moving.{refutes_behind}

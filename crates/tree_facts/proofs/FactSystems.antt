@@ -9,15 +9,15 @@ use Rattle.std.specs.Option.{option_and_then}
 use Rattle.std.proofs.lemmas.Option.{option_and_then_some, same_Some}
 use Rattle.affine_core.specs.declared.form.Form.{Form}
 use Rattle.affine_core.specs.Affine.{widened_form}
-use Rattle.difference_graphs.proofs.MadeRows.{taken_all}
-use Rattle.difference_graphs.proofs.RowBounds.{forms_append}
+use Rattle.tree_graphs.proofs.MadeRows.{taken_all}
+use Rattle.tree_graphs.proofs.RowBounds.{forms_append}
 use Rattle.int_polyhedra.specs.declared.system.Proof.{Proof}
 use Rattle.int_polyhedra.specs.Rules.{Refutes}
-use Rattle.row_sums.proofs.RowParts.{made_widens}
+use Rattle.tree_sums.proofs.RowParts.{made_widens}
 use Rattle.source_tree.specs.Checked.{IsRefuted}
 use Rattle.source_tree.specs.Rows.{RowExpr, Take, row_form, row_forms}
 use Rattle.source_tree.specs.Systems.{Context}
-use Rattle.stride_rows.specs.declared.cuts.Cut.{Cut}
+use Rattle.tree_cuts.specs.declared.cuts.Cut.{Cut}
 use Rattle.tree_facts.specs.Cuts.{proof_by_cuts}
 use Rattle.tree_facts.specs.Facts.{fact_rows, AddFacts, HoldsWithoutFacts}
 use Rattle.tree_facts.proofs.ByCuts.{refutes_by_cuts}

@@ -15,7 +15,7 @@ use Rattle.int_polyhedra.specs.declared.system.Term.{Term}
 use Rattle.int_polyhedra.specs.Rules.{by_cut, by_split, by_sum, IsSumOf, Refutes}
 use Rattle.int_polyhedra.specs.Steps.{quotient_row}
 use Rattle.plain_data.proofs.Lists.{slice_get-append_left, slice_get-append_right}
-use Rattle.stride_rows.proofs.Sums.{same_is_sum, AreSameTerms}
+use Rattle.tree_cuts.proofs.Sums.{same_is_sum, AreSameTerms}
 use Rattle.tree_facts.specs.Behind.{number_behind, proof_behind, terms_behind}
 use Rattle.tree_facts.proofs.Folds.{behind_cut, behind_split, behind_sum}
 

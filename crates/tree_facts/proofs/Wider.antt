@@ -16,18 +16,18 @@ use Rattle.affine_core.specs.declared.form.Form.{Form}
 use Rattle.affine_core.specs.Affine.{constant_form, form_product, form_sum, widened_form}
 use Rattle.affine_core.specs.Within.{form_in_128_bits}
 use Rattle.affine_core.proofs.Integers.{unsigned_abs-positive}
-use Rattle.difference_graphs.proofs.MadeRows.{taken_made, widened_same}
+use Rattle.tree_graphs.proofs.MadeRows.{taken_made, widened_same}
 use Rattle.int_polyhedra.specs.declared.system.Term.{Term}
 use Rattle.int_polyhedra.specs.Rules.{IsSumOf}
 use Rattle.int_polyhedra.specs.Steps.{floor, quotient_row, sum_onto}
 use Rattle.int_polyhedra.specs.Systems.{AreOver}
 use Rattle.int_polyhedra.proofs.Variables.{over_at}
 use Rattle.plain_data.proofs.Lists.{slice_get-some}
-use Rattle.row_sums.proofs.RowParts.{made_widens}
+use Rattle.tree_sums.proofs.RowParts.{made_widens}
 use Rattle.source_tree.specs.Rows.{RowExpr, Plus, Take, Times, row_form, row_forms}
-use Rattle.stride_rows.specs.Cuts.{AddRows, AddsRow}
-use Rattle.stride_rows.specs.declared.cuts.Cut.{Cut}
-use Rattle.stride_rows.proofs.Floors.{divides_multiple, floor_multiple}
+use Rattle.tree_cuts.specs.Cuts.{AddRows, AddsRow}
+use Rattle.tree_cuts.specs.declared.cuts.Cut.{Cut}
+use Rattle.tree_cuts.proofs.Floors.{divides_multiple, floor_multiple}
 
 -- A sum as a row that is made
 

@@ -2,7 +2,7 @@
 use Rattle.std.specs.Prelude.{ℕ, ◌+◌, List, [], ◌∷◌, if◌then◌else◌}
 use Rattle.int_polyhedra.specs.declared.system.Proof.{Proof}
 use Rattle.int_polyhedra.specs.declared.system.Proof.TheViews as proof
-use Rattle.stride_rows.specs.declared.cuts.Cut.{Cut}
+use Rattle.tree_cuts.specs.declared.cuts.Cut.{Cut}
 use Rattle.tree_facts.specs.Behind.{proof_behind}
 use Rattle.tree_trim.specs.Proofs.{names_row, proof_without}
 

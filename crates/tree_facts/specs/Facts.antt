@@ -4,12 +4,12 @@ use Rattle.affine_core.specs.declared.form.Form.{Form}
 use Rattle.int_polyhedra.specs.Systems.{AreOver}
 use Rattle.int_polyhedra.specs.declared.system.System.{System}
 use Rattle.int_polyhedra.specs.declared.system.Proof.{Proof}
-use Rattle.row_sums.specs.Parts.{IsWithin}
+use Rattle.tree_sums.specs.Parts.{IsWithin}
 use Rattle.source_tree.specs.Checked.{IsRefuted}
 use Rattle.source_tree.specs.Rows.{RowExpr, Take, row_forms}
 use Rattle.source_tree.specs.Systems.{Context}
-use Rattle.stride_rows.specs.Cuts.{AddRows, AddsRow}
-use Rattle.stride_rows.specs.declared.cuts.Cut.{Cut}
+use Rattle.tree_cuts.specs.Cuts.{AddRows, AddsRow}
+use Rattle.tree_cuts.specs.declared.cuts.Cut.{Cut}
 use Rattle.tree_facts.specs.Cuts.{proof_by_cuts}
 use Rattle.tree_facts.specs.declared.search.Facts.{Facts}
 

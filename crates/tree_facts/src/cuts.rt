@@ -5,7 +5,7 @@ use crate::behind::proof_behind;
 use int_polyhedra::{Proof, by_cut};
 use plain_data::Items;
 use std::alloc::{AllocError, Global};
-use stride_rows::Cut;
+use tree_cuts::Cut;
 use tree_trim::{names_row, proof_without};
 
 // The proof of a system with the row of this number, as one of the system without it, to which the Cut adds that row: the

@@ -1,15 +1,15 @@
 ghost use Rattle.std.specs.Prelude.{◌≡◌, ◌≤◌, ◌≤ℤ◌, ◌^◌, ◌%◌, ◌==◌, pos, length, unsigned_abs, All, IfOk, IfSome, IsTrue, OnOk};
 ghost use Rattle.std.specs.List.{list_all};
-ghost use Rattle.row_sums.specs.Parts.{IsWithin};
+ghost use Rattle.tree_sums.specs.Parts.{IsWithin};
 ghost use Rattle.tree_facts.specs.Facts.{AreFacts, IsFactOf};
 
 use crate::sums::sum_onto;
 use affine_core::{Form, Row};
-use difference_graphs::once;
 use int_polyhedra::{System, Term, divides, quotients};
 use plain_data::Items;
 use std::alloc::{AllocError, Global};
-use stride_rows::Cut;
+use tree_cuts::Cut;
+use tree_graphs::once;
 
 /// Facts of a context: a Cut of its rows for each, and the row that it adds.
 #[derive(Drop)]

@@ -11,8 +11,8 @@ use Rattle.std.proofs.lemmas.Bool.{cases_Bool}
 use Rattle.std.proofs.Math.Nat.{le-max_left, le-max_right}
 use Rattle.affine_core.specs.declared.form.Form.{Form}
 use Rattle.int_polyhedra.specs.declared.system.Proof.{Proof}
-use Rattle.difference_graphs.specs.Heights.{height_of, height_step}
-use Rattle.difference_graphs.proofs.Heights.{height_dead, height_test, height_writer, height_zero}
+use Rattle.tree_graphs.specs.Heights.{height_of, height_step}
+use Rattle.tree_graphs.proofs.Heights.{height_dead, height_test, height_writer, height_zero}
 use Rattle.source_tree.specs.declared.tree.Tree.{Tree}
 use Rattle.source_tree.specs.declared.tree.Tree.TheFolds.{fold-roll-Tree, ind-Tree, map-Tree}
 use Rattle.source_tree.specs.declared.tree.Tree.TheOpen as layer

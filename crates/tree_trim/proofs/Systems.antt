@@ -12,11 +12,11 @@ use Rattle.std.proofs.lemmas.Bool.{or_parts}
 use Rattle.std.proofs.lemmas.List.{append-nil, append_assoc, map-append}
 use Rattle.std.proofs.lemmas.Option.{same_Some, option_and_then_some}
 use Rattle.affine_core.specs.declared.form.Form.{Form}
-use Rattle.difference_graphs.specs.Joint.{head_systems, no_orders, orders_behind, place_systems, write_systems_of}
-use Rattle.difference_graphs.specs.Joint.{ReadAndWrite}
+use Rattle.tree_graphs.specs.Joint.{head_systems, no_orders, orders_behind, place_systems, write_systems_of}
+use Rattle.tree_graphs.specs.Joint.{ReadAndWrite}
 use Rattle.int_polyhedra.specs.declared.system.Proof.{Proof}
 use Rattle.int_polyhedra.specs.Rules.{Refutes}
-use Rattle.difference_graphs.proofs.RowBounds.{forms_append}
+use Rattle.tree_graphs.proofs.RowBounds.{forms_append}
 use Rattle.source_tree.specs.Checked.{AreRefuted, IsRefuted}
 use Rattle.source_tree.specs.Places.{at_place, before_rows, cell_rows, differ_rows, domain_rows, same_rows}
 use Rattle.source_tree.specs.Rows.{RowExpr, RowSystem, below_zero, row_form, row_forms}

@@ -13,19 +13,19 @@ use Rattle.std.proofs.lemmas.List.{append-nil, append_assoc}
 use Rattle.std.proofs.lemmas.List.Elements.{All-nil, All-cons, All-head, All-tail}
 use Rattle.std.proofs.lemmas.Option.{same_Some, option_and_then_some}
 use Rattle.affine_core.specs.declared.form.Form.{Form}
-use Rattle.difference_graphs.specs.Contexts.{IsMadeAs}
-use Rattle.difference_graphs.specs.Joint.{at_dead, at_test, at_writer, at_zero, no_orders, place_systems, write_systems_of}
-use Rattle.difference_graphs.specs.Joint.{IsCheckedForAll, IsSum, IsTreeFor}
-use Rattle.difference_graphs.specs.Joint.{ReadAndWrite}
+use Rattle.tree_graphs.specs.Contexts.{IsMadeAs}
+use Rattle.tree_graphs.specs.Joint.{at_dead, at_test, at_writer, at_zero, no_orders, place_systems, write_systems_of}
+use Rattle.tree_graphs.specs.Joint.{IsCheckedForAll, IsSum, IsTreeFor}
+use Rattle.tree_graphs.specs.Joint.{ReadAndWrite}
 use Rattle.int_polyhedra.specs.declared.system.Proof.{Proof}
 use Rattle.int_polyhedra.specs.declared.system.System.{System}
 use Rattle.int_polyhedra.specs.Steps.{negation_of}
 use Rattle.int_polyhedra.proofs.Variables.{negation_over}
-use Rattle.difference_graphs.specs.Facts.{with_form}
-use Rattle.difference_graphs.proofs.Small.{opposite_fits, opposite_form}
-use Rattle.difference_graphs.proofs.MadeRows.{more_made, opposite_made, taken_made}
-use Rattle.row_sums.specs.Parts.{IsWithin}
-use Rattle.row_sums.proofs.Within.{IsWithin-weaker}
+use Rattle.tree_graphs.specs.Facts.{with_form}
+use Rattle.tree_graphs.proofs.Small.{opposite_fits, opposite_form}
+use Rattle.tree_graphs.proofs.MadeRows.{more_made, opposite_made, taken_made}
+use Rattle.tree_sums.specs.Parts.{IsWithin}
+use Rattle.tree_sums.proofs.Within.{IsWithin-weaker}
 use Rattle.source_tree.specs.Checked.{AreRefuted}
 use Rattle.source_tree.specs.Rows.{RowExpr, RowSystem, Take, below_zero, row_form, row_forms}
 use Rattle.source_tree.specs.Systems.{Context, dead_systems, test_no, test_yes}

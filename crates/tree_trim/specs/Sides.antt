@@ -1,11 +1,11 @@
 -- Branches of a Test, checked in their contexts for these reads and writes.
 use Rattle.std.specs.Prelude.{◌≡◌, ◌^◌, ◌+◌, ℕ, List, false, length, Some}
 use Rattle.affine_core.specs.declared.form.Form.{Form}
-use Rattle.difference_graphs.specs.Joint.{IsTreeFor, ReadAndWrite}
+use Rattle.tree_graphs.specs.Joint.{IsTreeFor, ReadAndWrite}
 use Rattle.int_polyhedra.specs.declared.system.System.{System}
 use Rattle.int_polyhedra.specs.Steps.{negation_of}
-use Rattle.difference_graphs.specs.Facts.{with_form}
-use Rattle.row_sums.specs.Parts.{IsWithin}
+use Rattle.tree_graphs.specs.Facts.{with_form}
+use Rattle.tree_sums.specs.Parts.{IsWithin}
 use Rattle.source_tree.specs.declared.tree.Tree.{Tree}
 use Rattle.tree_trim.specs.Trees.{tree_names_row}
 

@@ -1,6 +1,6 @@
 ghost use Rattle.std.specs.Prelude.{◌≡◌, List, IfOk};
 ghost use Rattle.affine_core.specs.declared.form.Form.{Form as FormOf};
-ghost use Rattle.difference_graphs.specs.Joint.{IsTreeFor, ReadAndWrite};
+ghost use Rattle.tree_graphs.specs.Joint.{IsTreeFor, ReadAndWrite};
 ghost use Rattle.int_polyhedra.specs.declared.system.System.{System as SystemOf};
 ghost use Rattle.source_tree.specs.declared.tree.Tree.TheViews.{Divides as DividesOf, Test as TestOf};
 ghost use Rattle.tree_trim.specs.Sides.{AreJoinedSides, IsJoinedBranch};
@@ -142,7 +142,7 @@ fn branch_or_test(
         drop(yes);
         return branch_without(alloc, no, row);
     }
-    difference_graphs::test(alloc, form.copy(), yes, no)
+    tree_graphs::test(alloc, form.copy(), yes, no)
 }
 
 /// The tree of a Test from its two branches, where the Test's row has this number in their contexts. A branch none of whose

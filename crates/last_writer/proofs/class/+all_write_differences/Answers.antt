@@ -5,11 +5,11 @@ use Rattle.std.proofs.Common.{◌≡◌, ◌∷◌, ◌+◌, ◌&&◌, [], true,
 use Rattle.std.specs.List.{list_all}
 use Rattle.std.proofs.lemmas.Bool.{eq-eqb}
 use Rattle.std.proofs.lemmas.List.{nil_from_length}
-use Rattle.difference_graphs.specs.Class.{writes_differences}
+use Rattle.tree_graphs.specs.Class.{writes_differences}
 use Rattle.last_writer.proofs.ReadClass.{differences_none, differences_some}
 use Rattle.source_tree.specs.Systems.{writes_from, Occurrence}
 use Rattle.last_writer.proofs.class.+all_write_differences.Goals as goal
-use Rattle.stride_rows.proofs.ReadClass.{writes_here, writes_elsewhere, writes_nothing}
+use Rattle.tree_cuts.proofs.ReadClass.{writes_here, writes_elsewhere, writes_nothing}
 
 pub returns-in_default : goal.returns-in_default
 returns-in_default t c u =

@@ -2,13 +2,13 @@ use Rattle.std.proofs.Common.{◌≡◌, ◌<◌, length, sym, ap, ◌∙◌, ar
 use Rattle.std.specs.Prelude.{Some, slice_get}
 use Rattle.std.specs.List.{list_all}
 use Rattle.std.proofs.lemmas.Option.{slice_get_read}
-use Rattle.difference_graphs.specs.Class.{writes_differences}
+use Rattle.tree_graphs.specs.Class.{writes_differences}
 use Rattle.last_writer.proofs.ReadClass.{class_of}
 use Rattle.sanlp.specs.declared.nest.Access.{Access}
 use Rattle.sanlp.proofs.ReadCounts.{read_count-some}
 use Rattle.source_tree.specs.Systems.{read_at, writes_from, Occurrence}
 use Rattle.last_writer.proofs.class.in_difference_class.Goals as goal
-use Rattle.stride_rows.proofs.ReadClass.{read_is}
+use Rattle.tree_cuts.proofs.ReadClass.{read_is}
 
 pub bounds-as_slice-read : goal.bounds-as_slice-read
 bounds-as_slice-read c =

@@ -4,7 +4,7 @@ use Rattle.std.specs.Prelude.{All}
 use Rattle.std.proofs.lemmas.List.{nil_from_length}
 use Rattle.std.proofs.lemmas.List.Elements.{All-head, All-tail}
 use Rattle.std.proofs.lemmas.Result.{IfOk-weaker}
-use Rattle.difference_graphs.specs.Joint.{IsSum}
+use Rattle.tree_graphs.specs.Joint.{IsSum}
 use Rattle.int_polyhedra.specs.declared.system.Proof.TheVariants.{Sum}
 use Rattle.last_writer.proofs.FactLeaves.{order_away}
 use Rattle.last_writer.proofs.OrderSteps.{after_none, after_step, none_left}

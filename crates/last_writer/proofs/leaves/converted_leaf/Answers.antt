@@ -1,7 +1,7 @@
 -- A leaf's proofs are those for all writers, where the facts are no rows of the context.
 use Rattle.std.proofs.Common.{refl, sym, subst, arith}
 use Rattle.std.specs.Prelude.{All}
-use Rattle.difference_graphs.specs.Joint.{no_orders, write_systems_of, IsSum}
+use Rattle.tree_graphs.specs.Joint.{no_orders, write_systems_of, IsSum}
 use Rattle.last_writer.proofs.FactLeaves.{dead_away, leaf_below, rows_before}
 use Rattle.last_writer.proofs.TreeConversion.{dead_converts, point_converts, zero_converts}
 use Rattle.last_writer.proofs.Nodes.{joined_point, joined_zero}

@@ -1,5 +1,5 @@
 use Rattle.std.proofs.Common.{◌+◌, [], length, refl, sym, subst}
-use Rattle.difference_graphs.specs.Joint.{no_orders}
+use Rattle.tree_graphs.specs.Joint.{no_orders}
 use Rattle.last_writer.proofs.TreeConversion.{all_written}
 use Rattle.source_tree.specs.Checked.{AreRefuted}
 use Rattle.last_writer.proofs.leaves.none_proofs.Goals as goal

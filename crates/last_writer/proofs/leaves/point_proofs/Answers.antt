@@ -3,7 +3,7 @@
 use Rattle.std.proofs.Common.{◌≡◌, ◌≤◌, ℕ, length, map, refl, sym, ap, ◌∙◌, subst}
 use Rattle.std.specs.Prelude.{All}
 use Rattle.std.proofs.lemmas.List.Elements.{All-drop, All-take}
-use Rattle.difference_graphs.specs.Joint.{orders_behind, IsSum}
+use Rattle.tree_graphs.specs.Joint.{orders_behind, IsSum}
 use Rattle.last_writer.proofs.JointTrees.{few_loops}
 use Rattle.last_writer.proofs.LeafConversion.{few_after}
 use Rattle.last_writer.proofs.WriterLeaves.{back_is, cells_inside, first, front_is, is_place, is_told_here, leaf_writer, of}

@@ -4,7 +4,7 @@ use Rattle.std.proofs.Common.{◌≡◌, ◌<◌, ◌+◌, ◌∷◌, true, leng
 use Rattle.std.specs.Prelude.{All, MatchOption}
 use Rattle.std.proofs.lemmas.List.{nil_from_length}
 use Rattle.std.proofs.lemmas.List.Elements.{All-head, All-tail}
-use Rattle.difference_graphs.specs.Joint.{IsSum}
+use Rattle.tree_graphs.specs.Joint.{IsSum}
 use Rattle.last_writer.proofs.FactLeaves.{write_away}
 use Rattle.last_writer.proofs.LeafConversion.{is_refusal, refused, refused_here, tested, told_places, zip_count}
 use Rattle.last_writer.proofs.OrderSteps.{adds_absent, adds_refused, adds_told}

@@ -9,7 +9,7 @@ use Rattle.std.proofs.lemmas.Result.{IfOk-weaker}
 use Rattle.affine_core.specs.Affine.{widened_form}
 use Rattle.last_writer.proofs.JointTrees.{answers_more, divides_checked, few_loops, few_rows, made_more, no_checked, no_in}
 use Rattle.last_writer.proofs.JointTrees.{answers_no, small_at, vars_below}
-use Rattle.difference_graphs.specs.Contexts.{IsMadeAs}
+use Rattle.tree_graphs.specs.Contexts.{IsMadeAs}
 use Rattle.last_writer.specs.Answers.{answered_context}
 use Rattle.stride_trees.specs.Answers.{below_answer}
 use Rattle.last_writer.specs.Leaves.{context_of}

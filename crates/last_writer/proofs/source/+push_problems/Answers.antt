@@ -6,9 +6,9 @@ use Rattle.std.specs.List.{AllZip}
 use Rattle.std.proofs.lemmas.List.{append-nil, nil_from_length}
 use Rattle.std.proofs.lemmas.List.Elements.{All-head, All-tail}
 use Rattle.std.proofs.lemmas.Result.{on_ok_weaker}
-use Rattle.candidate_order.specs.Reads.{pair_in, pairs_with}
-use Rattle.candidate_order.specs.declared.candidates.Problem.{Problem}
-use Rattle.candidate_order.specs.declared.candidates.Read.{Read}
+use Rattle.tree_order.specs.Reads.{pair_in, pairs_with}
+use Rattle.tree_order.specs.declared.candidates.Problem.{Problem}
+use Rattle.tree_order.specs.declared.candidates.Read.{Read}
 use Rattle.last_writer.proofs.WriterTests.{told_asked}
 use Rattle.last_writer.proofs.LeafConversion.{refused}
 use Rattle.last_writer.proofs.QuotientWrites.{one_more, pairs_refused, pairs_told, problem_pair}

@@ -4,7 +4,7 @@ use Rattle.std.proofs.lemmas.Option.{same_Some, slice_get_within, slice_get_read
 use Rattle.last_writer.proofs.ReadClass.{reader_there}
 use Rattle.sanlp.specs.declared.nest.Statement.{Statement}
 use Rattle.last_writer.proofs.source.reference_of.Goals as goal
-use Rattle.stride_rows.proofs.ReadClass.{read_is}
+use Rattle.tree_cuts.proofs.ReadClass.{read_is}
 
 pub statement-reader-requires : goal.statement-reader-requires
 statement-reader-requires c =

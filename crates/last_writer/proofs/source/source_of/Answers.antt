@@ -4,7 +4,7 @@ use Rattle.std.proofs.lemmas.Result.{IfOk-weaker}
 use Rattle.last_writer.proofs.ReadClass.{exact_of}
 use Rattle.source_tree.specs.References.{occurrence_of}
 use Rattle.source_tree.specs.Systems.{read_at}
-use Rattle.stride_rows.specs.Class.{IsInStrideClass}
+use Rattle.tree_cuts.specs.Class.{IsInStrideClass}
 use Rattle.last_writer.proofs.source.source_of.Goals as goal
 
 pub tree_of-requires : goal.tree_of-requires

@@ -1,6 +1,6 @@
 use Rattle.std.proofs.Common.{◌≡◌, ◌^◌, ◌∙◌, true, false, sym, subst}
 use Rattle.std.specs.Prelude.{All}
-use Rattle.row_sums.specs.Parts.{IsWithin}
+use Rattle.tree_sums.specs.Parts.{IsWithin}
 use Rattle.stride_trees.proofs.ProblemBounds.{all_within, are_fitting}
 use Rattle.stride_trees.specs.Strides.{depth_of_write, read_of, write_of}
 use Rattle.last_writer.proofs.source.told_of.Goals as goal

@@ -9,7 +9,7 @@ use Rattle.last_writer.proofs.RootContexts.{root_made, root_small}
 use Rattle.last_writer.proofs.JointTrees.{few_loops}
 use Rattle.source_tree.specs.declared.reference.Reference.{Reference}
 use Rattle.source_tree.specs.Systems.{writes_from}
-use Rattle.stride_rows.specs.Class.{stride_count, writes_strides}
+use Rattle.tree_cuts.specs.Class.{stride_count, writes_strides}
 use Rattle.last_writer.proofs.source.tree_of.Goals as goal
 
 pub push_writers-requires-clause-read : goal.push_writers-requires-clause-read

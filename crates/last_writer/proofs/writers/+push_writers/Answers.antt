@@ -8,7 +8,7 @@ use Rattle.last_writer.proofs.StatementWrites.{all_of_others, first_fits, sum_of
 use Rattle.last_writer.specs.Writers.{AreWriters}
 use Rattle.source_tree.specs.Systems.{with_write, write_to, writes_from}
 use Rattle.source_tree.specs.References.{occurrence_of}
-use Rattle.stride_rows.specs.Class.{stride_count, writes_strides}
+use Rattle.tree_cuts.specs.Class.{stride_count, writes_strides}
 use Rattle.last_writer.proofs.writers.+push_writers.Goals as goal
 
 pub returns-in_default : goal.returns-in_default

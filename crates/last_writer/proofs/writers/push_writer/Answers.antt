@@ -3,13 +3,13 @@ use Rattle.std.specs.Prelude.{IfSome, IsTrue}
 use Rattle.std.specs.List.{sum_by}
 use Rattle.std.proofs.lemmas.List.Sums.{sum_by-cons}
 use Rattle.std.proofs.lemmas.Result.{on_ok_weaker}
-use Rattle.candidate_order.specs.Candidates.{levels_before}
+use Rattle.tree_order.specs.Candidates.{levels_before}
 use Rattle.last_writer.proofs.StatementWrites.{says_before, says_not, strided_at}
 use Rattle.last_writer.proofs.WriterLists.{few_of, left_out, one_writer, writers_none}
 use Rattle.last_writer.specs.Writers.{AddsTests, AreWriters, IsWriterOf}
 use Rattle.source_tree.specs.Systems.{with_write}
 use Rattle.source_tree.specs.References.{occurrence_of}
-use Rattle.stride_rows.specs.Class.{stride_count, writes_strides}
+use Rattle.tree_cuts.specs.Class.{stride_count, writes_strides}
 use Rattle.stride_trees.specs.Strides.{read_of, tests_of, write_of}
 use Rattle.last_writer.proofs.writers.push_writer.Goals as goal
 

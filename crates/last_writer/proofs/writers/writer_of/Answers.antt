@@ -4,7 +4,7 @@ use Rattle.std.proofs.lemmas.Int.{ints}
 use Rattle.std.proofs.lemmas.List.Elements.{All-weaker}
 use Rattle.stride_trees.specs.Answers.{IsSmallTest}
 use Rattle.last_writer.proofs.WriterLists.{small_tests}
-use Rattle.row_sums.specs.Parts.{IsWithin}
+use Rattle.tree_sums.specs.Parts.{IsWithin}
 use Rattle.stride_trees.proofs.ProblemBounds.{all_within, are_fitting}
 use Rattle.stride_trees.proofs.TestCounts.{few_tests}
 use Rattle.stride_trees.specs.Divisions.{divisions_from}

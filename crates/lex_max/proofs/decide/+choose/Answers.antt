@@ -6,11 +6,11 @@ use Rattle.std.proofs.lemmas.List.Sums.{sum_by-cons}
 use Rattle.std.proofs.lemmas.Result.{IfOk-weaker}
 use Rattle.affine_core.specs.declared.form.Form.{Form}
 use Rattle.lex_max.specs.Answer.{IsAnswer, IsContextOf}
-use Rattle.difference_graphs.specs.Asked.{depth_of_write}
+use Rattle.tree_graphs.specs.Asked.{depth_of_write}
 use Rattle.lex_max.specs.ChoiceSteps.{AreSmallForms, IsChoiceStep, IsFollowed, IsSmallForm}
 use Rattle.lex_max.specs.Choices.{choices_left, IsChoosing}
-use Rattle.difference_graphs.specs.Facts.{with_form}
-use Rattle.difference_graphs.proofs.Small.{negation_of-some}
+use Rattle.tree_graphs.specs.Facts.{with_form}
+use Rattle.tree_graphs.proofs.Small.{negation_of-some}
 use Rattle.lex_max.proofs.LeastForm.{choices_behind}
 use Rattle.lex_max.proofs.DecisionContexts.{chosen_all, choosing_end, choosing_start, choosing_step, context_is}
 use Rattle.lex_max.proofs.DecisionContexts.{context_more, few_uppers, next_more, opposite_long, opposite_small}
@@ -18,8 +18,8 @@ use Rattle.lex_max.proofs.DecisionContexts.{some_upper}
 use Rattle.lex_max.proofs.ChoiceForms.{chosen_small, next_small, small_uppers}
 use Rattle.lex_max.proofs.TestTrees.{answer_test}
 use Rattle.lex_max.proofs.ZeroLeaves.{answer_wider, context_less}
-use Rattle.row_sums.specs.Parts.{IsWithin}
-use Rattle.row_sums.proofs.Within.{IsWithin-weaker}
+use Rattle.tree_sums.specs.Parts.{IsWithin}
+use Rattle.tree_sums.proofs.Within.{IsWithin-weaker}
 use Rattle.source_tree.specs.declared.tree.Tree.TheViews.{Test}
 use Rattle.lex_max.proofs.decide.+choose.Goals as goal
 

@@ -5,11 +5,11 @@ use Rattle.std.proofs.lemmas.List.Elements.{All-head, All-tail}
 use Rattle.std.proofs.lemmas.Result.{IfOk-weaker}
 use Rattle.affine_core.specs.declared.form.Form.{Form}
 use Rattle.lex_max.specs.Answer.{IsAnswer}
-use Rattle.difference_graphs.specs.Cycles.{IsCycle}
+use Rattle.tree_graphs.specs.Cycles.{IsCycle}
 use Rattle.lex_max.proofs.DecisionContexts.{context_is, context_more}
 use Rattle.lex_max.proofs.ZeroLeaves.{answer_wider, context_less}
 use Rattle.lex_max.proofs.decide.+conditions.Goals as goal
-use Rattle.row_sums.proofs.Within.{IsWithin-weaker}
+use Rattle.tree_sums.proofs.Within.{IsWithin-weaker}
 
 pub conditions-choose_all-requires-clause-context : goal.conditions-choose_all-requires-clause-context
 conditions-choose_all-requires-clause-context t c =

@@ -9,7 +9,7 @@ use Rattle.lex_max.proofs.DecisionContexts.{certs_all, certs_at, certs_more, cer
 use Rattle.lex_max.proofs.DecisionContexts.{own_fact}
 use Rattle.lex_max.proofs.ZeroLeaves.{answer_wider, context_less}
 use Rattle.lex_max.proofs.decide.+confirm.Goals as goal
-use Rattle.row_sums.proofs.Within.{IsWithin-weaker}
+use Rattle.tree_sums.proofs.Within.{IsWithin-weaker}
 
 -- All edges are shown
 

@@ -5,15 +5,15 @@ use Rattle.std.specs.Prelude.{All, IfOk}
 use Rattle.std.proofs.lemmas.List.{append-nil, nil_from_length}
 use Rattle.std.proofs.lemmas.List.Elements.{All-head, All-tail}
 use Rattle.affine_core.specs.declared.form.Form.{Form}
-use Rattle.difference_graphs.specs.Cycles.{IsCycle}
-use Rattle.difference_graphs.specs.Facts.{form_parts, IsFact}
-use Rattle.difference_graphs.specs.declared.cycles.Cycle.{Cycle}
+use Rattle.tree_graphs.specs.Cycles.{IsCycle}
+use Rattle.tree_graphs.specs.Facts.{form_parts, IsFact}
+use Rattle.tree_graphs.specs.declared.cycles.Cycle.{Cycle}
 use Rattle.int_polyhedra.specs.declared.system.System.{System}
 use Rattle.int_polyhedra.specs.declared.system.Term.{Term}
 use Rattle.lex_max.specs.ChoiceSteps.{with_cycles}
 use Rattle.lex_max.proofs.DecisionContexts.{context_is, context_more}
 use Rattle.lex_max.proofs.decide.+is_told.Goals as goal
-use Rattle.row_sums.proofs.Within.{IsWithin-weaker}
+use Rattle.tree_sums.proofs.Within.{IsWithin-weaker}
 
 without : (context : System) (cycles : List Cycle) → cycles ≡ [] → context ≡ with_cycles context cycles
 without context cycles none =

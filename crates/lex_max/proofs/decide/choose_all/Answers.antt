@@ -6,7 +6,7 @@ use Rattle.lex_max.specs.ChoiceSteps.{AreSmallForms}
 use Rattle.lex_max.proofs.ChoiceForms.{small_uppers}
 use Rattle.lex_max.proofs.DecisionContexts.{choosing_start, context_is, few_tests, few_uppers, next_first, none_chosen}
 use Rattle.lex_max.proofs.DecisionContexts.{some_upper}
-use Rattle.difference_graphs.proofs.ProblemBounds.{asked_fits}
+use Rattle.tree_graphs.proofs.ProblemBounds.{asked_fits}
 use Rattle.lex_max.proofs.ZeroLeaves.{answer_wider, context_less}
 use Rattle.lex_max.proofs.decide.choose_all.Goals as goal
 

@@ -1,6 +1,6 @@
 use Rattle.std.proofs.Common.{◌≡◌, arith}
 use Rattle.std.proofs.lemmas.Option.{slice_get_within}
-use Rattle.difference_graphs.specs.Asked.{depth_of_write}
+use Rattle.tree_graphs.specs.Asked.{depth_of_write}
 use Rattle.lex_max.proofs.ReturnEdges.{back_cycle, back_even, back_first, back_form, back_second, form_chosen, inner_from}
 use Rattle.lex_max.proofs.ReturnEdges.{item_chosen, self_cycle, self_form}
 use Rattle.lex_max.proofs.decide.cycle_back.Goals as goal

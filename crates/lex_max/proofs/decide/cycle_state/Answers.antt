@@ -1,7 +1,7 @@
 use Rattle.std.proofs.Common.{ℕ, sym, ◌∙◌, subst}
 use Rattle.std.specs.Prelude.{IfSome}
 use Rattle.lex_max.specs.Answer.{IsAnswer}
-use Rattle.difference_graphs.specs.Facts.{form_parts, IsFact}
+use Rattle.tree_graphs.specs.Facts.{form_parts, IsFact}
 use Rattle.lex_max.proofs.DecisionContexts.{context_is, cycle_fact}
 use Rattle.lex_max.proofs.decide.cycle_state.Goals as goal
 

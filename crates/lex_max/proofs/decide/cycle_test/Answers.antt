@@ -5,11 +5,11 @@ use Rattle.affine_core.specs.declared.form.Form.{Form}
 use Rattle.int_polyhedra.specs.declared.system.System.{System}
 use Rattle.int_polyhedra.specs.Steps.{negation_of}
 use Rattle.lex_max.specs.Answer.{IsAnswer}
-use Rattle.difference_graphs.proofs.Small.{opposite_fits, opposite_form}
+use Rattle.tree_graphs.proofs.Small.{opposite_fits, opposite_form}
 use Rattle.lex_max.proofs.TestTrees.{answer_test}
 use Rattle.source_tree.specs.declared.tree.Tree.TheViews.{Test}
 use Rattle.lex_max.proofs.decide.cycle_test.Goals as goal
-use Rattle.row_sums.proofs.Within.{IsWithin-weaker}
+use Rattle.tree_sums.proofs.Within.{IsWithin-weaker}
 
 pub returns-in-Ok : goal.returns-in-Ok
 returns-in-Ok c =

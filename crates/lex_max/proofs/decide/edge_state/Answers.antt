@@ -2,16 +2,16 @@ use Rattle.std.proofs.Common.{◌≡◌, List, subst, arith}
 use Rattle.std.specs.Prelude.{IfOk, IfSome}
 use Rattle.affine_core.specs.declared.form.Form.{Form}
 use Rattle.int_polyhedra.specs.declared.system.System.{System}
-use Rattle.difference_graphs.specs.Asked.{depth_of_write}
+use Rattle.tree_graphs.specs.Asked.{depth_of_write}
 use Rattle.lex_max.specs.Choices.{chosen_place}
-use Rattle.difference_graphs.specs.Edges.{edge_parts, IsEdge}
+use Rattle.tree_graphs.specs.Edges.{edge_parts, IsEdge}
 use Rattle.lex_max.specs.EdgeStates.{IsEdgeState}
-use Rattle.difference_graphs.specs.Facts.{form_parts}
+use Rattle.tree_graphs.specs.Facts.{form_parts}
 use Rattle.lex_max.specs.declared.decide.EdgeState.{EdgeState}
-use Rattle.difference_graphs.specs.declared.edges.Edge.{Edge}
-use Rattle.difference_graphs.specs.declared.writes.Writes.{Writes}
+use Rattle.tree_graphs.specs.declared.edges.Edge.{Edge}
+use Rattle.tree_graphs.specs.declared.writes.Writes.{Writes}
 use Rattle.lex_max.proofs.Uppers.{edge_at}
-use Rattle.row_sums.specs.Parts.{Part}
+use Rattle.tree_sums.specs.Parts.{Part}
 use Rattle.lex_max.proofs.decide.edge_state.Goals as goal
 
 -- An edge to a variable

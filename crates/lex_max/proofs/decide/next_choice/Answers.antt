@@ -4,9 +4,9 @@ use Rattle.std.proofs.lemmas.Result.{IfOk-weaker}
 use Rattle.affine_core.specs.declared.form.Form.{Form}
 use Rattle.int_polyhedra.specs.declared.system.Term.{Term}
 use Rattle.lex_max.specs.Choices.{with_terms, IsNextChoice}
-use Rattle.difference_graphs.specs.Facts.{form_parts, IsFact}
+use Rattle.tree_graphs.specs.Facts.{form_parts, IsFact}
 use Rattle.lex_max.proofs.DecisionContexts.{next_kept, next_switched}
-use Rattle.difference_graphs.proofs.Small.{negative_over}
+use Rattle.tree_graphs.proofs.Small.{negative_over}
 use Rattle.lex_max.proofs.decide.next_choice.Goals as goal
 
 pub returns-in-Some : goal.returns-in-Some

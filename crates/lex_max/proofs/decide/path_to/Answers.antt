@@ -1,6 +1,6 @@
 use Rattle.std.proofs.Common.{◌++◌, ◌∷◌, [], sym, ap, ◌∙◌, arith}
 use Rattle.std.specs.Option.{option_copied}
-use Rattle.difference_graphs.specs.Paths.{term_of}
+use Rattle.tree_graphs.specs.Paths.{term_of}
 use Rattle.lex_max.proofs.ChosenPaths.{is_led, led_found, led_terms, led_within}
 use Rattle.lex_max.proofs.decide.path_to.Goals as goal
 

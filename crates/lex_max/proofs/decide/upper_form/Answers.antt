@@ -1,10 +1,10 @@
 use Rattle.std.proofs.Common.{◌≡◌, ◌<◌, ◌^◌, sym, ap, ◌∙◌, arith}
 use Rattle.std.specs.Option.{option_copied}
-use Rattle.difference_graphs.specs.Asked.{depth_of_write}
-use Rattle.difference_graphs.proofs.FloydWarshall.{bound_small}
+use Rattle.tree_graphs.specs.Asked.{depth_of_write}
+use Rattle.tree_graphs.proofs.FloydWarshall.{bound_small}
 use Rattle.lex_max.proofs.ChosenPaths.{upper_none, upper_out, upper_past, upper_some}
 use Rattle.lex_max.proofs.decide.upper_form.Goals as goal
-use Rattle.row_sums.proofs.Within.{IsWithin-weaker}
+use Rattle.tree_sums.proofs.Within.{IsWithin-weaker}
 
 pub returns-then-edge-depth : goal.returns-then-edge-depth
 returns-then-edge-depth c =

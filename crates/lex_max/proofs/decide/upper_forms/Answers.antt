@@ -1,9 +1,9 @@
 use Rattle.std.proofs.Common.{◌<◌, ◌++◌, ◌∷◌, [], length, map, take, refl, sym, ap, ◌∙◌, arith}
 use Rattle.std.proofs.lemmas.List.{map_more}
 use Rattle.std.proofs.lemmas.Option.{slice_get_read}
-use Rattle.difference_graphs.specs.Asked.{depth_of_write}
+use Rattle.tree_graphs.specs.Asked.{depth_of_write}
 use Rattle.lex_max.specs.Choices.{upper_of}
-use Rattle.difference_graphs.specs.Edges.{IsEdge}
+use Rattle.tree_graphs.specs.Edges.{IsEdge}
 use Rattle.lex_max.proofs.decide.upper_forms.Goals as goal
 use Rattle.plain_data.proofs.Lists.{All-slice_get}
 

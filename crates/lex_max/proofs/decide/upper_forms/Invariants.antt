@@ -1,5 +1,5 @@
 use Rattle.std.proofs.Common.{◌≡◌, map, take}
-use Rattle.difference_graphs.specs.Asked.{depth_of_write}
+use Rattle.tree_graphs.specs.Asked.{depth_of_write}
 use Rattle.lex_max.specs.Choices.{upper_of}
 use Rattle.lex_max.proofs.decide.upper_forms.Given as goal
 

@@ -1,6 +1,6 @@
 use Rattle.std.proofs.Common.{◌≡◌, arith}
 use Rattle.std.proofs.lemmas.Result.{IfOk-weaker}
-use Rattle.difference_graphs.specs.Asked.{depth_of_write}
+use Rattle.tree_graphs.specs.Asked.{depth_of_write}
 use Rattle.lex_max.proofs.ReturnEdges.{inner_fact, inner_found, inner_from, item_chosen, out_fact, out_found}
 use Rattle.lex_max.proofs.decide.upper_terms.Goals as goal
 

@@ -1,5 +1,5 @@
 use Rattle.std.proofs.Common.{arith}
-use Rattle.difference_graphs.proofs.ProblemBounds.{asked_fits}
+use Rattle.tree_graphs.proofs.ProblemBounds.{asked_fits}
 use Rattle.lex_max.proofs.greatest.root.Goals as goal
 
 pub overflow_cast-result : goal.overflow_cast-result

@@ -1,12 +1,12 @@
 use Rattle.std.proofs.Common.{[], sym, subst, arith}
 use Rattle.std.proofs.lemmas.Result.{IfOk-weaker}
-use Rattle.difference_graphs.specs.Cycles.{IsContradiction}
-use Rattle.difference_graphs.specs.Asked.{depth_of_write}
-use Rattle.difference_graphs.specs.Closed.{IsClosure}
-use Rattle.difference_graphs.specs.Edges.{IsGraph}
-use Rattle.difference_graphs.specs.Rounds.{IsGraphOf}
-use Rattle.difference_graphs.proofs.ProblemBounds.{asked_fits}
-use Rattle.difference_graphs.proofs.ZeroCycles.{negative_contradicts}
+use Rattle.tree_graphs.specs.Cycles.{IsContradiction}
+use Rattle.tree_graphs.specs.Asked.{depth_of_write}
+use Rattle.tree_graphs.specs.Closed.{IsClosure}
+use Rattle.tree_graphs.specs.Edges.{IsGraph}
+use Rattle.tree_graphs.specs.Rounds.{IsGraphOf}
+use Rattle.tree_graphs.proofs.ProblemBounds.{asked_fits}
+use Rattle.tree_graphs.proofs.ZeroCycles.{negative_contradicts}
 use Rattle.lex_max.proofs.ZeroLeaves.{context_less}
 use Rattle.lex_max.proofs.greatest.tree_of.Goals as goal
 

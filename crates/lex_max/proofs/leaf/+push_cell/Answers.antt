@@ -2,7 +2,7 @@ use Rattle.std.proofs.Common.{◌≡◌, ◌++◌, ◌∷◌, [], ap, ◌∙◌,
 use Rattle.std.proofs.lemmas.List.{nil_from_length}
 use Rattle.std.proofs.lemmas.Result.{on_ok_weaker}
 use Rattle.int_polyhedra.specs.declared.system.Proof.TheVariants.{Sum}
-use Rattle.difference_graphs.specs.Paths.{term_of}
+use Rattle.tree_graphs.specs.Paths.{term_of}
 use Rattle.lex_max.proofs.LeafProofs.{cells_end, cells_odd, cells_step}
 use Rattle.lex_max.proofs.leaf.+push_cell.Goals as goal
 

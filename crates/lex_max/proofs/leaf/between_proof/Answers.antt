@@ -4,8 +4,8 @@ use Rattle.std.proofs.lemmas.List.Elements.{All-weaker}
 use Rattle.std.proofs.lemmas.Result.{IfOk-weaker}
 use Rattle.int_polyhedra.specs.declared.system.Proof.TheVariants.{Sum}
 use Rattle.int_polyhedra.specs.declared.system.Term.{Term}
-use Rattle.difference_graphs.specs.Paths.{term_of, terms_from}
-use Rattle.difference_graphs.proofs.ProblemBounds.{asked_fits}
+use Rattle.tree_graphs.specs.Paths.{term_of, terms_from}
+use Rattle.tree_graphs.proofs.ProblemBounds.{asked_fits}
 use Rattle.lex_max.proofs.ReturnEdges.{form_chosen, item_chosen}
 use Rattle.lex_max.proofs.leaf.between_proof.Goals as goal
 

@@ -3,15 +3,15 @@ use Rattle.std.specs.Prelude.{All}
 use Rattle.source_tree.specs.Checked.{AreRefuted}
 use Rattle.source_tree.specs.Places.{cell_rows, domain_rows}
 use Rattle.source_tree.specs.Systems.{Context}
-use Rattle.difference_graphs.specs.Asked.{read_of, write_of}
+use Rattle.tree_graphs.specs.Asked.{read_of, write_of}
 use Rattle.lex_max.specs.Choices.{chosen_place}
 use Rattle.lex_max.specs.Leaves.{AreOrderCerts, AreShown, IsLeafOf}
-use Rattle.difference_graphs.specs.Simple.{IsLightSum}
-use Rattle.difference_graphs.specs.Systems.{place_systems}
+use Rattle.tree_graphs.specs.Simple.{IsLightSum}
+use Rattle.tree_graphs.specs.Systems.{place_systems}
 use Rattle.lex_max.proofs.LevelProofs.{cells_part, leaf_here, leaf_refuted, many, many_behind, order_part}
 use Rattle.lex_max.proofs.LevelProofs.{outside_part, plain_here}
 use Rattle.lex_max.proofs.LeafProofs.{plain_of}
-use Rattle.difference_graphs.proofs.ProblemBounds.{asked_fits}
+use Rattle.tree_graphs.proofs.ProblemBounds.{asked_fits}
 use Rattle.lex_max.proofs.leaf.leaf_proofs.Goals as goal
 
 pub overflow_mul-cells : goal.overflow_mul-cells

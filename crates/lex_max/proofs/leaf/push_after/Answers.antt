@@ -1,6 +1,6 @@
 use Rattle.std.proofs.Common.{◌∷◌, [], map, sym, subst}
 use Rattle.std.proofs.lemmas.Result.{on_ok_weaker}
-use Rattle.difference_graphs.specs.Asked.{read_of}
+use Rattle.tree_graphs.specs.Asked.{read_of}
 use Rattle.lex_max.specs.Leaves.{after_levels, AddsProofs}
 use Rattle.lex_max.proofs.LevelProofs.{after_other, after_same}
 use Rattle.lex_max.proofs.LeafProofs.{level_same}

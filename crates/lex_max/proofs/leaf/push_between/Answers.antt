@@ -1,5 +1,5 @@
 use Rattle.std.proofs.Common.{◌≡◌, ◌<◌, arith}
-use Rattle.difference_graphs.specs.Asked.{depth_of_write}
+use Rattle.tree_graphs.specs.Asked.{depth_of_write}
 use Rattle.lex_max.specs.Choices.{chosen_place}
 use Rattle.lex_max.proofs.LevelProofs.{between_all, between_next, between_none}
 use Rattle.lex_max.proofs.leaf.push_between.Goals as goal

@@ -1,7 +1,7 @@
 use Rattle.std.proofs.Common.{◌≡◌, ◌∷◌, length, ap, subst, arith, rules}
 use Rattle.std.specs.Prelude.{All}
 use Rattle.std.proofs.lemmas.List.Elements.{All-head, All-tail}
-use Rattle.difference_graphs.specs.Cycles.{IsCycle}
+use Rattle.tree_graphs.specs.Cycles.{IsCycle}
 use Rattle.lex_max.proofs.zeros.+refuted_leaf.Goals as goal
 
 pub refuted_by-requires-clause-cycle : goal.refuted_by-requires-clause-cycle

@@ -2,8 +2,8 @@ use Rattle.std.proofs.Common.{◌^◌, length, sym, ap, ◌∙◌, subst, arith}
 use Rattle.std.proofs.lemmas.Option.{same_Some, IfSome_then}
 use Rattle.std.proofs.lemmas.Result.{IfOk-weaker}
 use Rattle.affine_core.specs.declared.form.Form.{Form}
-use Rattle.difference_graphs.specs.Facts.{form_parts, IsFact}
-use Rattle.difference_graphs.proofs.Small.{negation_of-some}
+use Rattle.tree_graphs.specs.Facts.{form_parts, IsFact}
+use Rattle.tree_graphs.proofs.Small.{negation_of-some}
 use Rattle.lex_max.proofs.DecisionContexts.{opposite_long}
 use Rattle.lex_max.proofs.zeros.known_below.Goals as goal
 

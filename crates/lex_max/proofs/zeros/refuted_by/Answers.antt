@@ -2,12 +2,12 @@ use Rattle.std.proofs.Common.{◌≡◌, ◌^◌, sym, ◌∙◌, subst, arith}
 use Rattle.std.specs.Prelude.{Some, IfSome}
 use Rattle.int_polyhedra.specs.Steps.{negation_of}
 use Rattle.affine_core.specs.declared.form.Form.{Form}
-use Rattle.difference_graphs.specs.Cycles.{IsContradiction}
-use Rattle.difference_graphs.specs.Facts.{form_parts, IsFact}
+use Rattle.tree_graphs.specs.Cycles.{IsContradiction}
+use Rattle.tree_graphs.specs.Facts.{form_parts, IsFact}
 use Rattle.lex_max.proofs.DecisionContexts.{context_is, known_contradicts}
-use Rattle.difference_graphs.proofs.Small.{opposite_fits, opposite_form}
+use Rattle.tree_graphs.proofs.Small.{opposite_fits, opposite_form}
 use Rattle.lex_max.proofs.zeros.refuted_by.Goals as goal
-use Rattle.row_sums.proofs.Within.{IsWithin-weaker}
+use Rattle.tree_sums.proofs.Within.{IsWithin-weaker}
 
 pub known_below-requires-clause-context : goal.known_below-requires-clause-context
 known_below-requires-clause-context c =

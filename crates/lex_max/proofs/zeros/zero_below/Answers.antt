@@ -4,10 +4,10 @@ use Rattle.std.proofs.lemmas.Result.{IfOk-weaker}
 use Rattle.affine_core.specs.declared.form.Form.{Form}
 use Rattle.int_polyhedra.specs.declared.system.System.{System}
 use Rattle.lex_max.specs.Answer.{IsAnswer}
-use Rattle.difference_graphs.specs.Cycles.{IsContradiction}
+use Rattle.tree_graphs.specs.Cycles.{IsContradiction}
 use Rattle.lex_max.proofs.DecisionContexts.{added_contradicts, context_more, cycle_row_over, cycle_row_small}
 use Rattle.lex_max.proofs.zeros.zero_below.Goals as goal
-use Rattle.row_sums.proofs.Within.{IsWithin-weaker}
+use Rattle.tree_sums.proofs.Within.{IsWithin-weaker}
 
 pub opposite-row-requires : goal.opposite-row-requires
 opposite-row-requires c = IsWithin-weaker (2 ^ 40) (2 ^ 60) c.args.cycle.now.form (omega arith) c.requires.cycle.2.within

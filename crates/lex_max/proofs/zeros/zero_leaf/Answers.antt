@@ -1,6 +1,6 @@
 use Rattle.std.proofs.Common.{[], ◌∷◌, ◌++◌, ap, ◌∙◌}
 use Rattle.int_polyhedra.specs.declared.system.Proof.TheVariants.{Sum}
-use Rattle.difference_graphs.specs.Paths.{terms_from}
+use Rattle.tree_graphs.specs.Paths.{terms_from}
 use Rattle.lex_max.proofs.ZeroLeaves.{rows_fit}
 use Rattle.lex_max.proofs.ZeroLeaves.{zero_answer}
 use Rattle.source_tree.specs.declared.tree.Tree.TheVariants.{Zero}

@@ -1,7 +1,7 @@
 use Rattle.std.proofs.Common.{◌^◌, length, refl, sym, ap, ◌∙◌, subst}
 use Rattle.std.specs.Prelude.{All}
 use Rattle.std.proofs.lemmas.Result.{IfOk-weaker}
-use Rattle.row_sums.specs.Parts.{IsWithin}
+use Rattle.tree_sums.specs.Parts.{IsWithin}
 use Rattle.stride_trees.specs.Problem.{problem_rows, problem_writes}
 use Rattle.stride_trees.specs.Strides.{ArePlaces}
 use Rattle.stride_trees.proofs.ProblemBounds.{all_within}

@@ -1,7 +1,7 @@
 use Rattle.std.proofs.Common.{◌≡◌, ◌^◌, length, sym, ap, ◌∙◌, subst, arith}
 use Rattle.std.specs.Prelude.{All}
 use Rattle.std.proofs.lemmas.Result.{IfOk-weaker}
-use Rattle.row_sums.specs.Parts.{IsWithin}
+use Rattle.tree_sums.specs.Parts.{IsWithin}
 use Rattle.stride_trees.specs.Divisions.{divisions_from}
 use Rattle.stride_trees.specs.Strides.{depth_of_read, root_of, tests_of, IsTested, IsTestOf}
 use Rattle.stride_trees.proofs.ProblemBounds.{all_within}

@@ -5,7 +5,7 @@ use Rattle.std.proofs.lemmas.List.{nil_from_length}
 use Rattle.std.proofs.lemmas.List.Elements.{All-head, All-tail}
 use Rattle.std.proofs.lemmas.Result.{IfOk-weaker}
 use Rattle.affine_core.specs.Affine.{widened_form}
-use Rattle.difference_graphs.specs.Contexts.{IsMadeAs}
+use Rattle.tree_graphs.specs.Contexts.{IsMadeAs}
 use Rattle.source_tree.specs.Systems.{divides_yes}
 use Rattle.stride_trees.specs.Divisions.{divided_context}
 use Rattle.stride_trees.specs.Strides.{depth_of_read, IsTestOf}

@@ -1,7 +1,7 @@
 use Rattle.std.proofs.Common.{◌++◌, length, sym, ap, ◌∙◌, subst, arith}
 use Rattle.std.specs.Prelude.{All}
 use Rattle.std.proofs.lemmas.Result.{IfOk-weaker}
-use Rattle.difference_graphs.specs.Contexts.{IsMadeAs}
+use Rattle.tree_graphs.specs.Contexts.{IsMadeAs}
 use Rattle.source_tree.specs.Systems.{root_context}
 use Rattle.stride_trees.specs.Divisions.{divided_context}
 use Rattle.stride_trees.specs.Strides.{read_of, tests_of, IsTestOf}

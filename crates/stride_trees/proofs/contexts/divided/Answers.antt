@@ -8,7 +8,7 @@ use Rattle.stride_trees.proofs.AnswerContexts.{above_is, above_over, above_withi
 use Rattle.stride_trees.proofs.AnswerContexts.{form_within, made_below, quotients_over, quotients_within, rows_pushed, small_below}
 use Rattle.stride_trees.proofs.AnswerContexts.{exact_product, two_rows}
 use Rattle.stride_trees.proofs.contexts.divided.Goals as goal
-use Rattle.row_sums.proofs.Within.{IsWithin-weaker}
+use Rattle.tree_sums.proofs.Within.{IsWithin-weaker}
 
 pub difference-first-requires-clause-over : goal.difference-first-requires-clause-over
 difference-first-requires-clause-over c =

@@ -5,9 +5,9 @@ use Rattle.std.specs.Result.{result_ok}
 use Rattle.std.proofs.lemmas.Int.{to_z-of_z}
 use Rattle.affine_core.specs.Affine.{form_product}
 use Rattle.affine_core.specs.Within.{form_in_128_bits}
-use Rattle.difference_graphs.proofs.OrderEdges.{variable_within}
-use Rattle.row_sums.specs.Parts.{IsWithin}
-use Rattle.row_sums.proofs.Bound.{in_bits_within, product_within}
+use Rattle.tree_graphs.proofs.OrderEdges.{variable_within}
+use Rattle.tree_sums.specs.Parts.{IsWithin}
+use Rattle.tree_sums.proofs.Bound.{in_bits_within, product_within}
 use Rattle.stride_trees.proofs.contexts.multiple.Goals as goal
 
 pub unreachable-requires : goal.unreachable-requires

@@ -2,8 +2,8 @@
 use Rattle.std.proofs.Common.{◌≡◌, ◌+◌, ◌^◌, ◌∷◌, [], length, pos, negsuc, ◌-ℤ◌, map, refl, sym, ap, ◌∙◌, subst, arith}
 use Rattle.std.specs.Prelude.{Some}
 use Rattle.affine_core.specs.Affine.{form_product, form_sum, widened_form}
-use Rattle.row_sums.specs.Parts.{IsWithin}
-use Rattle.row_sums.proofs.Within.{IsWithin-weaker}
+use Rattle.tree_sums.specs.Parts.{IsWithin}
+use Rattle.tree_sums.proofs.Within.{IsWithin-weaker}
 use Rattle.source_tree.specs.Rows.{Take, Plus, minus, number, one_less, row_forms}
 use Rattle.source_tree.specs.Systems.{multiple, undivided_rows}
 use Rattle.stride_trees.proofs.AnswerContexts.{above_over, above_within, form_over, form_within, last_is, last_over, last_own, last_within}

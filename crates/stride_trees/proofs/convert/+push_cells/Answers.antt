@@ -3,9 +3,9 @@ use Rattle.std.specs.Prelude.{All}
 use Rattle.std.proofs.lemmas.List.{nil_from_length}
 use Rattle.std.proofs.lemmas.List.Elements.{All-head, All-tail}
 use Rattle.std.proofs.lemmas.Result.{on_ok_weaker}
-use Rattle.row_sums.specs.Parts.{IsWithin}
+use Rattle.tree_sums.specs.Parts.{IsWithin}
 use Rattle.stride_trees.specs.Contexts.{IsSum}
-use Rattle.stride_rows.proofs.Places.{behind_kept, next_below}
+use Rattle.tree_cuts.proofs.Places.{behind_kept, next_below}
 use Rattle.stride_trees.proofs.ProofConversion.{cells_end, cells_next, cells_odd}
 use Rattle.stride_trees.proofs.convert.+push_cells.Goals as goal
 

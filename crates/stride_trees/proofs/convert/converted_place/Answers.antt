@@ -1,7 +1,7 @@
 use Rattle.std.proofs.Common.{◌^◌, length, take, drop, sym, ap, subst, arith}
 use Rattle.std.specs.Prelude.{All}
 use Rattle.std.proofs.lemmas.List.{take-append-drop}
-use Rattle.row_sums.specs.Parts.{IsWithin}
+use Rattle.tree_sums.specs.Parts.{IsWithin}
 use Rattle.stride_trees.specs.Contexts.{IsSum}
 use Rattle.stride_trees.proofs.ProblemBounds.{all_within}
 use Rattle.stride_trees.proofs.LeafConversion.{all_parts}

@@ -1,7 +1,7 @@
 use Rattle.std.proofs.Common.{◌^◌, length, length-append, sym, ap, subst, arith}
 use Rattle.std.specs.Prelude.{All}
-use Rattle.row_sums.specs.Parts.{IsWithin}
-use Rattle.stride_rows.specs.Sources.{own_sources, sources_behind}
+use Rattle.tree_sums.specs.Parts.{IsWithin}
+use Rattle.tree_cuts.specs.Sources.{own_sources, sources_behind}
 use Rattle.stride_trees.proofs.SourceCuts.{write_count}
 use Rattle.stride_trees.proofs.ProblemBounds.{all_within}
 use Rattle.stride_trees.proofs.TestNodes.{fitting_of}
@@ -96,7 +96,7 @@ converted-requires c =
       ap length c.as_slice.ensures,
       ap length c.in_ok-sources.ensures,
       length-append (own_sources 0 c.args.here)
-      (sources_behind rows writes root c.args.places.now c.args.here c.args.more),
+          (sources_behind rows writes root c.args.places.now c.args.here c.args.more),
       write_count rows writes root c.args.places.now c.args.here c.args.more,
       f.few_rows,
       f.few_subscripts,

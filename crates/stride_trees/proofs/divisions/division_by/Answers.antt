@@ -1,6 +1,6 @@
 use Rattle.std.proofs.Common.{◌^◌, sym, subst, arith}
-use Rattle.row_sums.specs.Parts.{IsWithin}
-use Rattle.row_sums.proofs.Within.{IsWithin-weaker}
+use Rattle.tree_sums.specs.Parts.{IsWithin}
+use Rattle.tree_sums.proofs.Within.{IsWithin-weaker}
 use Rattle.stride_trees.proofs.TestForms.{moved_within}
 use Rattle.stride_trees.proofs.divisions.division_by.Goals as goal
 

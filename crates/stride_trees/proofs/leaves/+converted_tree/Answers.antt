@@ -1,8 +1,8 @@
 -- Each branch of a Test is made in its own context, which has one row more; a leaf is made at once.
 use Rattle.std.proofs.Common.{◌+◌, refl, sym, subst, rules}
 use Rattle.std.proofs.lemmas.Result.{IfOk-weaker}
-use Rattle.difference_graphs.specs.Simple.{IsSimple}
-use Rattle.difference_graphs.specs.Systems.{IsCheckedFor}
+use Rattle.tree_graphs.specs.Simple.{IsSimple}
+use Rattle.tree_graphs.specs.Systems.{IsCheckedFor}
 use Rattle.source_tree.specs.declared.tree.Tree.TheViews.{the_lemmas}
 use Rattle.stride_trees.specs.Contexts.{IsConvertedTree}
 use Rattle.stride_trees.specs.Problem.{told_read, told_write}

@@ -1,6 +1,6 @@
 use Rattle.std.proofs.Common.{◌++◌, refl, ap, ◌∙◌}
 use Rattle.stride_trees.proofs.LeafConversion.{writer_converted}
-use Rattle.difference_graphs.proofs.Nodes.{checked_point, simple_point}
+use Rattle.tree_graphs.proofs.Nodes.{checked_point, simple_point}
 use Rattle.stride_trees.proofs.ProofConversion.{light_sums}
 use Rattle.stride_trees.specs.Problem.{told_read, told_write}
 use Rattle.stride_trees.specs.Strides.{read_of, write_of}

@@ -1,5 +1,5 @@
 use Rattle.std.proofs.Common.{refl}
-use Rattle.difference_graphs.proofs.Nodes.{checked_zero, simple_none}
+use Rattle.tree_graphs.proofs.Nodes.{checked_zero, simple_none}
 use Rattle.stride_trees.proofs.LeafConversion.{zero_converted, zero_one}
 use Rattle.stride_trees.proofs.ProofConversion.{light_sums}
 use Rattle.stride_trees.specs.Problem.{told_read, told_write}

@@ -3,9 +3,9 @@ use Rattle.std.specs.Prelude.{All}
 use Rattle.std.specs.List.{count_by}
 use Rattle.std.proofs.lemmas.List.Elements.{All-head, All-tail, All-weaker}
 use Rattle.affine_core.specs.declared.form.Form.{Form}
-use Rattle.row_sums.specs.Parts.{IsWithin}
-use Rattle.stride_rows.specs.Class.{is_stride}
-use Rattle.stride_rows.proofs.Places.{behind_kept, enough_behind, next_kept, stride_has_place}
+use Rattle.tree_sums.specs.Parts.{IsWithin}
+use Rattle.tree_cuts.specs.Class.{is_stride}
+use Rattle.tree_cuts.proofs.Places.{behind_kept, enough_behind, next_kept, stride_has_place}
 use Rattle.stride_trees.proofs.problem.+push_reads.Goals as goal
 
 pub next_quotient-quotient-requires-clause-places : goal.next_quotient-quotient-requires-clause-places

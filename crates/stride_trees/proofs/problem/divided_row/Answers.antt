@@ -1,8 +1,8 @@
 use Rattle.std.proofs.Common.{◌≡◌, sym, ◌∙◌, arith}
 use Rattle.std.specs.Prelude.{Some}
 use Rattle.std.proofs.lemmas.Int.{ints}
-use Rattle.stride_rows.specs.Class.{stride_of}
-use Rattle.stride_rows.proofs.QuotientRows.{stride_positive}
+use Rattle.tree_cuts.specs.Class.{stride_of}
+use Rattle.tree_cuts.proofs.QuotientRows.{stride_positive}
 use Rattle.stride_trees.proofs.problem.divided_row.Goals as goal
 
 pub quotients-requires : goal.quotients-requires

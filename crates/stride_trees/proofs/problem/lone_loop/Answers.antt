@@ -1,5 +1,5 @@
 use Rattle.std.proofs.Common.{length, ap, arith}
-use Rattle.stride_rows.specs.Sources.{loop_of}
+use Rattle.tree_cuts.specs.Sources.{loop_of}
 use Rattle.stride_trees.proofs.QuotientProblem.{alone_other}
 use Rattle.stride_trees.proofs.problem.lone_loop.Goals as goal
 

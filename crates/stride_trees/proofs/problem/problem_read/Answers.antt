@@ -1,8 +1,8 @@
 use Rattle.std.proofs.Common.{◌^◌, length, sym, ap, subst, arith}
 use Rattle.affine_core.specs.declared.form.Form.{Form}
-use Rattle.difference_graphs.proofs.Small.{negative_over}
-use Rattle.row_sums.specs.Parts.{IsWithin}
-use Rattle.row_sums.proofs.Within.{IsWithin-weaker}
+use Rattle.tree_graphs.proofs.Small.{negative_over}
+use Rattle.tree_sums.specs.Parts.{IsWithin}
+use Rattle.tree_sums.proofs.Within.{IsWithin-weaker}
 use Rattle.stride_trees.proofs.TestForms.{moved_within}
 use Rattle.stride_trees.proofs.problem.problem_read.Goals as goal
 

@@ -3,8 +3,8 @@ use Rattle.std.specs.Prelude.{All}
 use Rattle.std.specs.List.{count_by}
 use Rattle.std.proofs.lemmas.List.Elements.{All-weaker}
 use Rattle.affine_core.specs.declared.form.Form.{Form}
-use Rattle.row_sums.specs.Parts.{IsWithin}
-use Rattle.stride_rows.specs.Class.{is_stride}
+use Rattle.tree_sums.specs.Parts.{IsWithin}
+use Rattle.tree_cuts.specs.Class.{is_stride}
 use Rattle.stride_trees.specs.Strides.{depth_of_read}
 use Rattle.stride_trees.proofs.QuotientProblem.{reads_short}
 use Rattle.stride_trees.proofs.ProblemBounds.{all_within}

@@ -1,5 +1,5 @@
 use Rattle.std.proofs.Common.{sym, ap, ◌∙◌, subst}
-use Rattle.difference_graphs.specs.Joint.{IsTreeFor}
+use Rattle.tree_graphs.specs.Joint.{IsTreeFor}
 use Rattle.tree_trim.specs.Trees.{tree_without}
 use Rattle.tree_trim.proofs.Trimming.{unnamed_joined}
 use Rattle.tree_trim.proofs.branch.branch_without.Goals as goal

@@ -1,6 +1,6 @@
 use Rattle.std.proofs.Common.{sym, subst}
 use Rattle.std.proofs.lemmas.Result.{IfOk-weaker}
-use Rattle.difference_graphs.specs.Joint.{IsTreeFor}
+use Rattle.tree_graphs.specs.Joint.{IsTreeFor}
 use Rattle.tree_trim.proofs.Trimming.{sides_joined}
 use Rattle.tree_trim.proofs.branch.trim_test.Goals as goal
 

@@ -1,5 +1,0 @@
-use Rattle.std.proofs.Common.{length}
-use Rattle.candidate_join.proofs.candidates.+push_level.Given as goal
-
-abbrev pub decreases-push_level : goal.decreases-push_level
-decreases-push_level l = length l.problems.now

@@ -1,5 +1,0 @@
-use Rattle.std.proofs.Common.{length}
-use Rattle.difference_graphs.proofs.closure.+bettered.Given as goal
-
-abbrev pub decreases-bettered : goal.decreases-bettered
-decreases-bettered l = length l.edges.now

@@ -1,5 +1,0 @@
-use Rattle.std.proofs.Common.{length}
-use Rattle.difference_graphs.proofs.cycles.+push_rounds.Given as goal
-
-abbrev pub decreases-push_rounds : goal.decreases-push_rounds
-decreases-push_rounds l = length l.outs.now

@@ -1,8 +1,0 @@
-use Rattle.std.proofs.Common.{◌^◌, sym, subst}
-use Rattle.row_sums.specs.Parts.{IsWithin}
-use Rattle.difference_graphs.proofs.Small.{negative_within}
-use Rattle.difference_graphs.proofs.forms.difference.Goals as goal
-
-pub sum-requires-clause-second : goal.sum-requires-clause-second
-sum-requires-clause-second c =
-    subst (IsWithin (2 ^ 60)) (sym c.negative.ensures) (negative_within (2 ^ 60) c.args.b.now c.requires.second)

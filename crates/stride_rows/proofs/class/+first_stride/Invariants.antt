@@ -1,5 +1,0 @@
-use Rattle.std.proofs.Common.{length}
-use Rattle.stride_rows.proofs.class.+first_stride.Given as goal
-
-abbrev pub decreases-first_stride : goal.decreases-first_stride
-decreases-first_stride l = length l.coefs.now

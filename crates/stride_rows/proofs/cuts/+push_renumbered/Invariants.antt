@@ -1,5 +1,0 @@
-use Rattle.std.proofs.Common.{length}
-use Rattle.stride_rows.proofs.cuts.+push_renumbered.Given as goal
-
-abbrev pub decreases-push_renumbered : goal.decreases-push_renumbered
-decreases-push_renumbered l = length l.terms.now

@@ -1,5 +1,0 @@
-use Rattle.std.proofs.Common.{length}
-use Rattle.stride_rows.proofs.cuts.+with_cuts.Given as goal
-
-abbrev pub decreases-with_cuts : goal.decreases-with_cuts
-decreases-with_cuts l = length l.sources.now

@@ -1,5 +1,0 @@
-use Rattle.stride_rows.proofs.CutRows.{converted_is_cut_sum}
-use Rattle.stride_rows.proofs.law.converted_sums_are_cut_sums.Goals as goal
-
-pub returns : goal.returns
-returns c = converted_is_cut_sum

@@ -1,4 +1,0 @@
-use Rattle.stride_rows.proofs.sources.+push_own.Given as goal
-
-abbrev pub decreases-push_own : goal.decreases-push_own
-decreases-push_own l = l.count

@@ -1,0 +1,19 @@
+use Rattle.std.proofs.Common.{ap, sym, subst}
+use Rattle.std.proofs.lemmas.Result.{IfOk-weaker}
+use Rattle.tree_graphs.specs.Facts.{IsContext}
+use Rattle.tree_join.proofs.path.enter.Goals as goal
+
+pub dead_leaf-requires : goal.dead_leaf-requires
+dead_leaf-requires c =
+    subst (λ rows. IsContext (record c.args.context.now { rows = rows })) (sym c.in_ok-push.ensures.ok) c.requires
+
+pub returns-clause-context : goal.returns-clause-context
+returns-clause-context c =
+    IfOk-weaker c.dead_leaf.result _ _
+    (λ leaf told. ap (λ rows. record c.args.context.now { rows = rows }) c.in_ok-push.ensures.ok) c.dead_leaf.ensures.joined
+
+pub returns-clause-dead : goal.returns-clause-dead
+returns-clause-dead c = c.dead_leaf.ensures.joined
+
+pub returns-clause-low : goal.returns-clause-low
+returns-clause-low c = c.dead_leaf.ensures.low

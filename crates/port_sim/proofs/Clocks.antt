@@ -1,0 +1,72 @@
+-- A clock of what the code holds: its three parts one after the other.
+use Rattle.std.proofs.Common.{◌≡◌, ◌<◌, ◌≤◌, ℕ, Bool, true, false, not, ◌||◌, length, ap, sym}
+use Rattle.std.proofs.Common.{subst, ◌∙◌, inl, inr, arith}
+use Rattle.std.specs.List.{range_with_len}
+use Rattle.std.proofs.lemmas.Bool.{both_ways, cases_lt, eq-eqb, ne_eqb, not_from_false, not_from_true}
+use Rattle.std.proofs.lemmas.List.FromFn.{length-range_with_len}
+use Rattle.std.proofs.lemmas.List.Sums.{prefix_len-le-length}
+use Rattle.sanlp.specs.declared.nest.Tag.{Tag}
+use Rattle.net_core.specs.Machine.{Net}
+use Rattle.net_core.specs.Rules.{tags}
+use Rattle.net_core.specs.Shape.{events_below}
+use Rattle.port_runs.specs.Ports.{PortState, port_after}
+use Rattle.port_clocks.specs.PortClocks.{PortClocksEnd, after_port_clocks, after_fires, events_of_clock}
+use Rattle.port_clocks.specs.PortClocks.{fires_of_clock, gets_of_clock, is_still_after, port_clocks, puts_of_clock}
+use Rattle.port_clocks.proofs.OneClock.{behind_clock}
+use Rattle.port_sim.specs.declared.ports.Ports.{Ports}
+use Rattle.port_sim.specs.Windows.{IsAt}
+use Rattle.port_sim.proofs.RunLists.{any_of, are_some}
+
+-- the whole clock, where its parts have come
+pub clock_done : (n : Net) (s : PortState Tag) (ports ports' : Ports) (puts fires gets : Bool) → IsAt n s ports
+    → puts ≡ are_some (puts_of_clock n s) → fires ≡ are_some (fires_of_clock n tags s)
+    → (IsAt n (port_after n tags (after_fires n tags s) (gets_of_clock n tags s)) ports')
+    × (gets ≡ are_some (gets_of_clock n tags s))
+    → (IsAt n (port_after n tags s (events_of_clock n tags s)) ports')
+    × ((puts || (fires || gets)) ≡ are_some (events_of_clock n tags s))
+clock_done n s ports ports' puts fires gets at some_puts some_fires last = (
+  subst (λ (t : PortState Tag). IsAt n t ports') (sym (behind_clock n tags at.wired s)) last.0,
+  ap (λ b. b || (fires || gets)) some_puts
+      ∙ ap (λ b. are_some (puts_of_clock n s) || (b || gets)) some_fires
+      ∙ ap (λ b. are_some (puts_of_clock n s) || (are_some (fires_of_clock n tags s) || b)) last.1
+      ∙ any_of (puts_of_clock n s) (fires_of_clock n tags s) (gets_of_clock n tags s),
+)
+
+-- no more clocks than events
+pub clocks_short : (n : Net) → port_clocks n ≤ events_below n n.processes
+unfolding port_clocks
+clocks_short n =
+    let numbers = range_with_len 0 (events_below n n.processes) in
+    omega (
+      arith,
+      prefix_len-le-length (λ k. not (is_still_after n k)) numbers,
+      length-range_with_len 0 (events_below n n.processes),
+    )
+
+-- a clock with events is before the last
+pub clock_before : (n : Net) → PortClocksEnd n tags → (k : ℕ) → k ≤ port_clocks n
+    → not (is_still_after n k) ≡ true → k < port_clocks n
+clock_before n ends k few some =
+    elim (cases_lt k (port_clocks n)) [
+      | inl lt ↦ lt
+      | inr ge ↦
+          let last : k ≡ port_clocks n = omega arith in
+          let still : is_still_after n (port_clocks n) ≡ true =
+          eq-eqb (length (events_of_clock n tags (after_port_clocks n tags (port_clocks n)))) 0
+          (ap length ends.still) in
+          absurd (both_ways (not (is_still_after n k))
+          (not_from_true (is_still_after n k) (ap (is_still_after n) last ∙ still)) some)
+    ]
+
+-- a clock without events is the last
+pub clock_last : (n : Net) → PortClocksEnd n tags → (k : ℕ) → k ≤ port_clocks n
+    → not (is_still_after n k) ≡ false → k ≡ port_clocks n
+clock_last n ends k few none =
+    elim (cases_lt k (port_clocks n)) [
+      | inl lt ↦
+          let some = ends.events k lt in
+          let other : is_still_after n k ≡ false =
+          ne_eqb (length (events_of_clock n tags (after_port_clocks n tags k))) 0 (λ e. omega (arith, some, e)) in
+          absurd (both_ways (not (is_still_after n k)) none (not_from_false (is_still_after n k) other))
+      | inr ge ↦ omega arith
+    ]

@@ -68,7 +68,7 @@ now_within net schedule c = omega (arith, one_more (queued net schedule c) (leng
 module _ (net : Net) (wired : IsWired net) (schedule : List ℕ) (p : ℕ) (e : Event)
     (is : slice_get (net.script p) (cut_after opening schedule p) ≡ Some e) where
   -- a channel to which the event puts nothing
-  greatest_other : (c : ℕ) → is_put c e ≡ false
+  pub greatest_other : (c : ℕ) → is_put c e ≡ false
       → greatest_length net schedule c ≡ greatest_length net (schedule ++ p ∷ []) c
   greatest_other c none =
       let puts = puts_advanced net wired (cut_after opening schedule) p e c is

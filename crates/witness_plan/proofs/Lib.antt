@@ -17,3 +17,7 @@ pub mod Downward
 pub mod PolicyRuns
 pub mod Descent
 pub mod RecordLemmas
+pub mod QueuesAlong
+pub mod PointEffects
+pub mod EffectLists
+pub mod PointRunLemmas

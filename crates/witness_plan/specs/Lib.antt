@@ -1,3 +1,5 @@
+pub mod Effects
+pub mod PointRuns
 pub mod Records
 pub mod Schedules
 pub mod Sequential

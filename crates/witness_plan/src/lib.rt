@@ -4,11 +4,13 @@
 //! those along the schedule so far.
 #![tactic(auto)]
 
+mod effects;
 mod laws;
+mod points;
+mod queues;
 mod recorder;
 mod running;
 mod schedules;
-mod steps;
 
 pub use laws::{goes_downward, other_capacities, schedule_runs};
 pub use running::run_by;

@@ -9,8 +9,8 @@ ghost use Rattle.witness_plan.specs.Schedules.{downward_schedule, schedule};
 ghost use Rattle.witness_plan.specs.Sequential.{capacities, channels_with, sequential_schedule, with_capacities};
 
 use crate::laws::schedule_runs;
+use crate::points::PointRun;
 use crate::recorder::{Recorder, bound_after};
-use crate::steps::make_points;
 use fire_runs::trace_runs;
 use net_core::{Channel, Network};
 use plain_data::Items;
@@ -46,12 +46,12 @@ fn sequential(alloc: Global, nest: &Nest, network: &Network) -> Result<Witness, 
     ensures capacities { IfOk result
         (λ witness. witness.capacities ≡ capacities network.now (sequential_schedule nest.now)) }
 {
-    let mut recorder = Recorder::new(alloc, network)?;
+    let mut made = PointRun::new(alloc, network)?;
     let runs = trace_runs(alloc, nest)?;
     for run in runs.as_slice() {
-        make_points(&mut recorder, network, run.process, run.count)?;
+        made.make_points(network, run.process, run.count)?;
     }
-    Ok(recorder.into_witness())
+    made.into_witness(alloc, network)
 }
 
 // The schedule that takes at each state the highest-numbered process that is ready, with its capacities. After an event of

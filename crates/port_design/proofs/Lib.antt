@@ -1,0 +1,13 @@
+pub mod Lists
+pub mod Places
+pub mod Ahead
+pub mod Given
+pub mod Effects
+pub mod Next
+pub mod Fronts
+pub mod PutPart
+pub mod FirePart
+pub mod GetPart
+pub mod Edge
+pub mod Clocked
+mod Worked

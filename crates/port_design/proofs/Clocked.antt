@@ -48,6 +48,7 @@ use Rattle.port_design.proofs.Fronts.{fire_front, same_without_put}
 use Rattle.port_design.proofs.GetPart.{after2, fire_between, get_any, get_comes, get_found, get_test, some_of}
 use Rattle.port_design.proofs.Next.{fire_is, part_run, test_coming, test_kind}
 use Rattle.port_design.proofs.Places.{NextIs, find_next}
+use Rattle.port_design.proofs.Offers.{offered_is_there}
 use Rattle.port_design.proofs.PutPart.{put_comes, put_found, put_test, values_behind}
 
 -- where no place passes a test
@@ -162,7 +163,13 @@ module _ {T : Type 0} (n : Net) (controls : Controls) (rule : Rule T) (wired : I
       ∙ sym (ap (λ (t : PortState T). (t.run.local p).kept) (after_clock k ∙ behind_clock n rule wired s))
 
   pub runs_by_clock : RunsByPortClock n controls rule
-  runs_by_clock = record { design = stands_for; fires = fires_alike }
+  runs_by_clock = record {
+    design = stands_for;
+    fires = fires_alike;
+    defined = λ k c on.
+        offered_is_there n controls wired (after_port_clocks n rule k) (after_edges n controls rule k) (stands_for k)
+        (counted_after n rule wired k) c on;
+  }
 
   -- Rest
 

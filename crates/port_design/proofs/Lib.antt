@@ -9,5 +9,7 @@ pub mod PutPart
 pub mod FirePart
 pub mod GetPart
 pub mod Edge
+pub mod Offers
 pub mod Clocked
+pub mod PortRings
 mod Worked

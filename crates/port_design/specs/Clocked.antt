@@ -16,7 +16,7 @@ use Rattle.port_items.specs.declared.items.PutItem.{PutItem}
 use Rattle.port_items.specs.Items.{begins_with_fire, begins_with_put, fire_if, fire_items, get_items_before, port_gets, put_items, without_fire, without_put}
 use Rattle.port_runs.specs.Ports.{PortState}
 use Rattle.port_clocks.specs.PortClocks.{after_port_clocks, port_clocks}
-use Rattle.port_design.specs.Registers.{Controls, Design, Node, Port, after_edges, begins_behind_fire, fires, fires_of, gets, no_stalls, puts, refs_fired}
+use Rattle.port_design.specs.Registers.{Controls, Design, Node, Port, after_edges, begins_behind_fire, fires, fires_of, gets, no_stalls, puts, refs_fired, token_for}
 
 -- a sequencer gives these items from a state on, one at each step, and then stands at its end
 abbrev pub GivesFrom : {T : Type 0} → Sequencer T → sequencer.State → List T → Type 0
@@ -114,6 +114,9 @@ pub record RunsByPortClock {T : Type 0} (n : Net) (controls : Controls) (rule : 
   pub fires : (k p : ℕ)
       → fires_of n controls rule no_stalls p k
       ≡ ((after_port_clocks n rule k).run.local p).kept
+  -- what is offered to a channel is there
+  pub defined : (k c : ℕ) → ((after_edges n controls rule k).putter c).waits ≡ true
+      → (x : T) × (token_for n (after_edges n controls rule k) c ≡ Some x)
 
 -- nothing moves at the next edge: no process fires, no port puts, and none gets
 pub record IsAtRest {T : Type 0} (n : Net) (controls : Controls) (d : Design T) : Type 0 where

@@ -1,4 +1,4 @@
-ghost use Rattle.std.specs.Prelude.{◌≡◌, ℕ};
+ghost use Rattle.std.specs.Prelude.{◌≡◌, ◌<◌, ℕ};
 ghost use Rattle.sanlp.specs.declared.nest.Inputs.{Inputs};
 ghost use Rattle.sanlp.specs.declared.nest.Nest.{Nest};
 ghost use Rattle.sanlp.specs.Meaning.{arrays};
@@ -8,9 +8,11 @@ ghost use Rattle.net_core.specs.Orders.{EndsAlways};
 ghost use Rattle.net_core.specs.Rules.{values};
 ghost use Rattle.net_core.specs.Shape.{IsWired};
 ghost use Rattle.net_core.specs.Sound.{IsSound};
+ghost use Rattle.design_clocks.specs.Rings.{Holds};
 ghost use Rattle.port_clocks.specs.PortClocks.{port_clocks};
-ghost use Rattle.port_design.specs.Registers.{Controls, no_stalls};
+ghost use Rattle.port_design.specs.Registers.{Controls, after_edges, no_stalls};
 ghost use Rattle.port_design.specs.Clocked.{FiresFindValues, GiveItems, HasSlotsApart, RunsByPortClock, TakesPortClocks, results_of};
+ghost use Rattle.port_design.specs.PortRings.{port_ring_after};
 
 use port_clocks::{port_clocks_compute, port_clocks_end};
 use port_runs::{port_runs_compute, port_runs_end, port_runs_name};
@@ -55,4 +57,15 @@ pub fn port_design_computes()
     port_clocks_compute();
     port_runs_compute();
     port_runs_name::<i64>();
+}
+
+/// A channel may as well be a ring of as many places as its capacity: at each edge the ring has as many tokens as the channel of
+/// the design, so it is ready and valid where that is, and these lie in it from the oldest one on, so it has the same front.
+pub fn port_rings_hold_tokens<T: Copy>()
+    ensures { (n : Net) (controls : Controls) (rule : Rule T) (k c : ℕ) → IsWired n
+        → HasSlotsApart n → GiveItems n controls → 0 < n.capacity c
+        → Holds (n.capacity c) (port_ring_after n controls rule c k)
+        ((after_edges n controls rule k).fifo c) }
+{
+    port_design_runs_by_clock::<T>();
 }

@@ -4,4 +4,7 @@
 
 mod laws;
 
-pub use laws::{port_design_computes, port_design_runs_by_clock, port_design_takes_clocks};
+pub use laws::{
+    port_design_computes, port_design_runs_by_clock, port_design_takes_clocks,
+    port_rings_hold_tokens,
+};

@@ -6,6 +6,7 @@ pub mod FitsSchedule
 pub mod FitsClasses
 pub mod Ready
 pub mod Turns
+pub mod TagRows
 pub mod Usable
 pub mod FitsNames
 pub mod Tables

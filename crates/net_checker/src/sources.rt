@@ -1,4 +1,4 @@
-ghost use Rattle.std.specs.Prelude.{◌≡◌, ◌<◌, ◌≤◌, ◌*◌, ◌++◌, ℕ, [], ◌∷◌, Option, None, Some, length, map, slice_get, slice_index_or, true, IsTrue, IfOk, IfSome};
+ghost use Rattle.std.specs.Prelude.{◌≡◌, ◌+◌, ◌<◌, ◌≤◌, ◌*◌, ◌++◌, ℕ, ℤ, List, [], ◌∷◌, Option, None, Some, length, map, slice_get, slice_index_or, true, IsTrue, IfOk, IfSome};
 ghost use Rattle.std.specs.List.{list_all, range_with_len};
 ghost use Rattle.std.specs.Option.{option_and_then, option_copied};
 ghost use Rattle.sanlp.specs.Access.{read_count};
@@ -12,7 +12,7 @@ ghost use Rattle.source_tree.specs.Sources.{read_number, read_sources, sources_o
 ghost use Rattle.source_tree.specs.Systems.{read_at};
 ghost use Rattle.net_checker.specs.Shapes.{read_total};
 ghost use Rattle.net_checker.specs.Sources.{first_overflow, origin_refusal, reads_refusal, source_refusal, tree_refusal};
-ghost use Rattle.net_checker.specs.Tables.{is_tree, AreInOrder, GivesTag};
+ghost use Rattle.net_checker.specs.Tables.{is_tree, AreInOrder, AreTold, GivesTag, IsAhead};
 ghost use Rattle.source_tree.specs.declared.tree.Tree.{Tree};
 ghost use Rattle.tree_eval.specs.Stretches.{IsStretchOf};
 
@@ -92,6 +92,11 @@ impl Pace {
         self.last.wrapping_add(self.jump)
     }
 
+    // So many turns more were found, each by the usual step.
+    fn pass(&mut self, turns: usize) {
+        self.last = self.last.wrapping_add(turns.wrapping_mul(self.step));
+    }
+
     // Another step that comes twice, one after the other, is the usual one from then on.
     fn note(&mut self, turn: usize) {
         let step = turn.wrapping_sub(self.last);
@@ -158,12 +163,12 @@ fn tag_of(nest: &Nest, points: &Points, found: &Found, paces: &mut Paces) -> Opt
 
 // The iteration vector of a statement's turn, if there is one.
 #[tactic(auto, using(crate::proofs::Lists::default_items))]
-fn vector_of_turn(points: &Points, statement: u32, turn: u32) -> Option<&Vector>
+fn vector_of_turn(points: &Points, statement: u32, turn: usize) -> Option<&Vector>
     ensures { option_copied result
         ≡ slice_get (slice_index_or points.now.of statement []) turn }
 {
     match points.of.get(statement as usize) {
-        Some(vectors) => vectors.get(turn as usize),
+        Some(vectors) => vectors.get(turn),
         None => None,
     }
 }
@@ -176,7 +181,7 @@ fn guessed_tag(points: &Points, follower: &Follower, at: &Vector, pace: &Pace) -
         → GivesTag points.now.of tree at.now tag) }
 {
     let turn = u32::try_from(pace.guess()).ok()?;
-    let there = vector_of_turn(points, pace.statement, turn)?;
+    let there = vector_of_turn(points, pace.statement, turn as usize)?;
     if follower.tells(at, pace.statement, there.as_slice()) {
         Some(Tag {
             process: pace.statement,
@@ -184,6 +189,190 @@ fn guessed_tag(points: &Points, follower: &Follower, at: &Vector, pace: &Pace) -
         })
     } else {
         None
+    }
+}
+
+// Tags of one statement that are known of the turns that come next.
+#[derive(Clone, Copy)]
+struct ToldTags {
+    statement: u32,
+    next: u32,
+    end: u32,
+}
+
+impl ToldTags {
+    // None is known.
+    fn none() -> ToldTags
+        ensures { (points : List (List (List ℤ))) (tree : Tree) (vectors : List (List ℤ))
+            (turn : ℕ) → AreTold points tree vectors turn result }
+    {
+        ToldTags {
+            statement: 0,
+            next: 0,
+            end: 0,
+        }
+    }
+
+    // How many there are.
+    fn count(&self) -> u32 {
+        self.end.saturating_sub(self.next)
+    }
+
+    // Takes the tag of the next turn, if it is known.
+    fn take(&mut self) -> Option<Tag>
+        ensures tag { IfSome result
+            (λ tag. (points : List (List (List ℤ))) (tree : Tree) (vectors : List (List ℤ))
+            (turn : ℕ) (at : List ℤ) → AreTold points tree vectors turn self.old
+            → slice_get vectors turn ≡ Some at → GivesTag points tree at tag) }
+        ensures left { (points : List (List (List ℤ))) (tree : Tree) (vectors : List (List ℤ))
+            (turn : ℕ) → AreTold points tree vectors turn self.old
+            → AreTold points tree vectors (turn + 1) self.new }
+    {
+        if self.next >= self.end {
+            return None;
+        }
+        let tag = Tag {
+            process: self.statement,
+            turn: self.next,
+        };
+        self.next += 1;
+        Some(tag)
+    }
+}
+
+// Whether a vector differs from another in its last value alone, and that is greater by so much.
+fn is_ahead(vector: &Vector, other: &Vector, by: u32) -> bool
+    ensures { IsTrue result → IsAhead by vector.now other.now }
+{
+    let Some((value, front)) = vector.as_slice().split_last() else {
+        return false;
+    };
+    let Some((greater, same)) = other.as_slice().split_last() else {
+        return false;
+    };
+    let Some(sum) = value.checked_add(i64::from(by)) else {
+        return false;
+    };
+    if sum != *greater {
+        return false;
+    }
+    front == same
+}
+
+// Whether the vector so many turns later is so much ahead.
+fn goes_on(vectors: &[Vector], turn: usize, by: u32) -> bool {
+    match (
+        vectors.get(turn),
+        vectors.get(turn.wrapping_add(by as usize)),
+    ) {
+        (Some(vector), Some(later)) => is_ahead(vector, later, by),
+        _ => false,
+    }
+}
+
+// How many vectors behind this one go on along the innermost loop, which may be as many as this. They are sought in steps that
+// double as long as they serve, and then halve. Nothing rests on it.
+fn row_length(vectors: &[Vector], turn: usize, guess: u32) -> u32 {
+    if goes_on(vectors, turn, guess) && !goes_on(vectors, turn, guess.saturating_add(1)) {
+        return guess;
+    }
+    let mut length: u32 = 0;
+    let mut step: u32 = 1;
+    for _ in 0..31 {
+        if !goes_on(vectors, turn, length.saturating_add(step)) {
+            break;
+        }
+        length = length.saturating_add(step);
+        step = step.saturating_mul(2);
+    }
+    for _ in 0..31 {
+        step /= 2;
+        if step == 0 {
+            break;
+        }
+        if goes_on(vectors, turn, length.saturating_add(step)) {
+            length = length.saturating_add(step);
+        }
+    }
+    length
+}
+
+// The tags of a row of so many turns, from this turn on, if a tree is known to give them. The reader's row and the writer's
+// both go on by 1 from turn to turn: their vectors stand in order, so where the last is as far ahead as it stands behind the
+// first, so is each between them. So the tree is asked at both ends alone.
+fn row_tags(
+    nest: &Nest,
+    points: &Points,
+    follower: &Follower,
+    statement: u32,
+    turn: usize,
+    length: u32,
+    pace: &Pace,
+) -> Option<ToldTags>
+    requires points { points.now.of ≡ points_of nest.now }
+    requires known { (tree : Tree) × IsStretchOf tree follower.now }
+    ensures { IfSome result
+        (λ told. (tree : Tree) → IsStretchOf tree follower.now
+        → AreTold points.now.of tree (slice_index_or points.now.of statement []) turn told) }
+{
+    let _ = nest;
+    let next = u32::try_from(pace.guess()).ok()?;
+    let last = next.checked_add(length)?;
+    let end = last.checked_add(1)?;
+    let last_turn = turn.checked_add(length as usize)?;
+    let first_at = vector_of_turn(points, statement, turn)?;
+    let last_at = vector_of_turn(points, statement, last_turn)?;
+    let first_there = vector_of_turn(points, pace.statement, next as usize)?;
+    let last_there = vector_of_turn(points, pace.statement, last as usize)?;
+    if length == 0 {
+        return None;
+    }
+    if !is_ahead(first_at, last_at, length) {
+        return None;
+    }
+    if !is_ahead(first_there, last_there, length) {
+        return None;
+    }
+    if !follower.tells(first_at, pace.statement, first_there.as_slice()) {
+        return None;
+    }
+    if !follower.tells(last_at, pace.statement, last_there.as_slice()) {
+        return None;
+    }
+    Some(ToldTags {
+        statement: pace.statement,
+        next,
+        end,
+    })
+}
+
+// The tags of the row that this turn is in, from this turn on, as far as they are known, where they are sought. The row may
+// be as long as is said.
+fn later_tags(
+    nest: &Nest,
+    points: &Points,
+    follower: &Follower,
+    statement: u32,
+    turn: usize,
+    pace: &Pace,
+    sought: Option<u32>,
+) -> ToldTags
+    requires points { points.now.of ≡ points_of nest.now }
+    requires statement { statement < length points.now.of }
+    requires known { (tree : Tree) × IsStretchOf tree follower.now }
+    ensures { (tree : Tree) → IsStretchOf tree follower.now
+        → AreTold points.now.of tree (slice_index_or points.now.of statement []) turn result }
+{
+    let Some(guess) = sought else {
+        return ToldTags::none();
+    };
+    if pace.step != 1 {
+        return ToldTags::none();
+    }
+    let length = row_length(vectors_of(points, statement), turn, guess);
+    match row_tags(nest, points, follower, statement, turn, length, pace) {
+        Some(told) => told,
+        None => ToldTags::none(),
     }
 }
 
@@ -214,12 +403,32 @@ fn add_sources(
         pace: Pace::before(0),
         other: Pace::before(0),
     };
+    let mut told = ToldTags::none();
+    let mut length: u32 = 0;
+    let mut sought: Option<u32> = None;
     for (turn, at) in vectors.iter().enumerate() {
-        if let Some(tag) = guessed_tag(points, &follower, at, &paces.pace) {
-            paces.pace.note(tag.turn as usize);
+        if let Some(tag) = told.take() {
             sources.push(Some(tag))?;
             continue;
         }
+        if let Some(tag) = guessed_tag(points, &follower, at, &paces.pace) {
+            paces.pace.note(tag.turn as usize);
+            sources.push(Some(tag))?;
+            told = later_tags(
+                nest,
+                points,
+                &follower,
+                statement,
+                turn + 1,
+                &paces.pace,
+                sought,
+            );
+            paces.pace.pass(told.count() as usize);
+            length = told.count().saturating_sub(1);
+            sought = None;
+            continue;
+        }
+        sought = Some(length);
         match follower.eval(tree, at) {
             Ok(found) => sources.push(tag_of(nest, points, &found, &mut paces))?,
             Err(_) => return Ok(Some(Rule::Overflow(turn as u32))),

@@ -97,6 +97,7 @@ loop-turn-preserved c =
           (λ writer h. c.tag_of.ensures writer (subst (IsPointOf (trace n) writer) (sym c.in-Ok.ensures.value) h))
           c.in_ok-push-in-Ok.ensures.ok;
       known = c.eval.ensures.known;
+      told = c.take.ensures.left c.args.points.now.of tree (get_or c.args.points.now.of s []) turn c.loop-turn.invariant.told;
     }
 
 pub loop-turn-preserved-in-Some : goal.loop-turn-preserved-in-Some
@@ -110,7 +111,9 @@ loop-turn-preserved-in-Some c =
     let all = whole n s c.args.points.now.of items c.requires.points c.vectors_of-vectors.ensures in
     let vectors : List (List ℤ) = get_or (points_of n) s [] in
     let there = here vectors items turn at all c.loop-turn-test.true c.index-vectors-turn.is in
-    let told = c.in-Some.ensures tree c.loop-turn.invariant.known in
+    let told = c.in-Some.ensures.tag c.args.points.now.of tree (get_or c.args.points.now.of s []) turn at
+    c.loop-turn.invariant.told (here (get_or c.args.points.now.of s []) items turn at c.vectors_of-vectors.ensures
+    c.loop-turn-test.true c.index-vectors-turn.is) in
     record {
       passed = λ f lt. elim (cases_lt f turn) [
         | inl before ↦ c.loop-turn.invariant.passed f before
@@ -123,7 +126,40 @@ loop-turn-preserved-in-Some c =
           (λ writer h. given_tag n c.args.points.now.of tree at c.in-Some.tag c.requires.points told writer h)
           c.in_ok-push.ensures.ok;
       known = c.loop-turn.invariant.known;
+      told = c.in-Some.ensures.left c.args.points.now.of tree (get_or c.args.points.now.of s []) turn
+          c.loop-turn.invariant.told;
     }
+
+pub loop-turn-preserved-in-Some-guessed_tag : goal.loop-turn-preserved-in-Some-guessed_tag
+loop-turn-preserved-in-Some-guessed_tag c =
+    let n = c.args.nest.now in
+    let s = c.args.statement in
+    let tree = c.args.tree.now in
+    let turn = c.loop-turn.turn in
+    let at = c.index-vectors-turn.result in
+    let items = c.vectors_of-vectors.result.now in
+    let all = whole n s c.args.points.now.of items c.requires.points c.vectors_of-vectors.ensures in
+    let vectors : List (List ℤ) = get_or (points_of n) s [] in
+    let there = here vectors items turn at all c.loop-turn-test.true c.index-vectors-turn.is in
+    let told = c.in-Some-guessed_tag.ensures tree c.loop-turn.invariant.known in
+    record {
+      passed = λ f lt. elim (cases_lt f turn) [
+        | inl before ↦ c.loop-turn.invariant.passed f before
+        | inr after ↦
+            let e : f ≡ turn = omega arith in
+            ap (at_vector tree vectors) e ∙ overflow_passed tree vectors turn at _ there told.is
+      ];
+      added = λ k checked. row_more n s k turn at tree c.loop-turn.sources c.push-in-Some-guessed_tag.new.self (Some c.in-Some-guessed_tag.tag)
+          (given_at n s k tree checked turn at there) (c.loop-turn.invariant.added k checked)
+          (λ writer h. given_tag n c.args.points.now.of tree at c.in-Some-guessed_tag.tag c.requires.points told writer h)
+          c.in_ok-push-2.ensures.ok;
+      known = c.loop-turn.invariant.known;
+      told = c.later_tags-told.ensures tree c.loop-turn.invariant.known;
+    }
+
+pub later_tags-told-requires-clause-statement : goal.later_tags-told-requires-clause-statement
+later_tags-told-requires-clause-statement c =
+    omega (arith, c.requires.statement, points_length c.args.nest.now, ap length c.requires.points)
 
 pub returns-clause-overflow : goal.returns-clause-overflow
 returns-clause-overflow c =

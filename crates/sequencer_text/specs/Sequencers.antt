@@ -3,7 +3,7 @@ use Rattle.std.specs.Prelude.{ℕ, List, [], ◌∷◌, ◌++◌, codes, decimal
 use Rattle.std.specs.List.{concat, flat_map, range_with_len}
 use Rattle.repeat_sequencer.specs.declared.sequencer.Sequencer.{Sequencer}
 use Rattle.sequencer_text.specs.declared.sequencer.EntityName.{EntityName}
-use Rattle.sequencer_text.specs.declared.sequencer.EntityName.TheVariants.{Control, Loop}
+use Rattle.sequencer_text.specs.declared.sequencer.EntityName.TheVariants.{Control, Loop, Fires, Get, Put}
 use Rattle.sequencer_text.specs.declared.sequencer.EndPart.{EndPart}
 use Rattle.sequencer_text.specs.declared.sequencer.EndPart.TheVariants.{Tables, Signals, Lines, Turns}
 use Rattle.sequencer_text.specs.declared.tables.EndColumn.TheVariants.{Level, First, Count}
@@ -13,10 +13,20 @@ use Rattle.vhdl_text.specs.Numbered.{with_number}
 abbrev pub library_lines : List ℕ
 library_lines = codes "\nlibrary ieee;\nuse ieee.std_logic_1164.all;\nuse ieee.numeric_std.all;\n"
 
--- the sequencer of process p's script, or of what its loop n gains
+-- a name of a number, and of two
+abbrev pub numbered : List ℕ → ℕ → List ℕ
+numbered before a = concat (before ∷ decimal a ∷ [])
+
+abbrev pub paired : List ℕ → ℕ → ℕ → List ℕ
+paired before a b = concat (before ∷ decimal a ∷ codes "_" ∷ decimal b ∷ [])
+
+-- the sequencer of process p's script, or of what its loop n gains; of its fires, or of a port of it at channel c
 abbrev pub name_text : EntityName → List ℕ
-name_text (Control p) = concat (codes "control_" ∷ decimal p ∷ [])
-name_text (Loop p n) = concat (codes "loop_" ∷ decimal p ∷ codes "_" ∷ decimal n ∷ [])
+name_text (Control p) = numbered (codes "control_") p
+name_text (Loop p n) = paired (codes "loop_") p n
+name_text (Fires p) = numbered (codes "fire_") p
+name_text (Get p c) = paired (codes "get_") p c
+name_text (Put p c) = paired (codes "put_") p c
 
 -- so many instructions
 abbrev pub sequencer_entity : EntityName → ℕ → List ℕ

@@ -1,5 +1,5 @@
 ghost use Rattle.text_out.specs.Wrote.{Wrote};
-ghost use Rattle.sequencer_text.specs.Sequencers.{end_part_text, end_tables, for_ends, name_text, sequencer_end, sequencer_entity, sequencer_head, sequencer_signals, sequencer_text, sequencer_types};
+ghost use Rattle.sequencer_text.specs.Sequencers.{end_part_text, end_tables, for_ends, name_text, numbered, paired, sequencer_end, sequencer_entity, sequencer_head, sequencer_signals, sequencer_text, sequencer_types};
 
 use crate::tables::{EndColumn, most_ends, most_turns, write_end_table};
 use repeat_sequencer::Sequencer;
@@ -13,6 +13,34 @@ pub enum EntityName {
     Control(u32),
     /// Of what a loop of this process gains.
     Loop(u32, u32),
+    /// Of the fires of this process.
+    Fires(u32),
+    /// Of the port at which this process gets from a channel.
+    Get(u32, u32),
+    /// Of the port at which this process puts to a channel.
+    Put(u32, u32),
+}
+
+// Writes a name of a number.
+fn write_numbered<W: TextWriter>(before: &[u8], number: u32, out: &mut W)
+    ensures { Wrote W.given out.old out.new (numbered before.now number) }
+{
+    write_all(&[Word::Text(before), Word::Number(u64::from(number))], out);
+}
+
+// Writes a name of two numbers.
+fn write_paired<W: TextWriter>(before: &[u8], first: u32, second: u32, out: &mut W)
+    ensures { Wrote W.given out.old out.new (paired before.now first second) }
+{
+    write_all(
+        &[
+            Word::Text(before),
+            Word::Number(u64::from(first)),
+            Word::Text(b"_"),
+            Word::Number(u64::from(second)),
+        ],
+        out,
+    );
 }
 
 /// Writes the name of an entity.
@@ -20,23 +48,11 @@ pub fn write_name<W: TextWriter>(name: EntityName, out: &mut W)
     ensures { Wrote W.given out.old out.new (name_text name) }
 {
     match name {
-        EntityName::Control(process) => {
-            write_all(
-                &[Word::Text(b"control_"), Word::Number(u64::from(process))],
-                out,
-            );
-        }
-        EntityName::Loop(process, number) => {
-            write_all(
-                &[
-                    Word::Text(b"loop_"),
-                    Word::Number(u64::from(process)),
-                    Word::Text(b"_"),
-                    Word::Number(u64::from(number)),
-                ],
-                out,
-            );
-        }
+        EntityName::Control(process) => write_numbered(b"control_", process, out),
+        EntityName::Loop(process, number) => write_paired(b"loop_", process, number, out),
+        EntityName::Fires(process) => write_numbered(b"fire_", process, out),
+        EntityName::Get(process, channel) => write_paired(b"get_", process, channel, out),
+        EntityName::Put(process, channel) => write_paired(b"put_", process, channel, out),
     }
 }
 

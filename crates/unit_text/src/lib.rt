@@ -12,5 +12,8 @@ mod unit;
 pub use laws::{
     controls_give_scripts, counters_give_loop_values, sequencers_are_no_longer_than_what_they_give,
 };
-pub use node::write_unit;
-pub use unit::{LoopCounter, Unit, first_with_long_sequencer};
+pub use node::{LoopPart, RolePart, role_part, write_entity, write_loops, write_unit};
+pub use unit::{
+    HasUnit, LoopCounter, MOST_INSTRUCTIONS, Unit, first_with_long_sequencer, longest_of,
+    sequencer_of,
+};

@@ -51,7 +51,7 @@ pub(crate) enum ReadPart {
 
 /// What a node has for a loop that its expression names.
 #[derive(Clone, Copy)]
-pub(crate) enum LoopPart {
+pub enum LoopPart {
     /// Its sequencer, before the node.
     Entity,
     /// What it gains.
@@ -68,7 +68,7 @@ pub(crate) enum LoopPart {
 
 /// What a node has for its role.
 #[derive(Clone, Copy)]
-pub(crate) enum RolePart {
+pub enum RolePart {
     /// Its ports.
     Ports,
     /// A sink's signal.
@@ -85,8 +85,8 @@ pub(crate) enum RolePart {
     Reset,
 }
 
-// What a node has for its role.
-fn role_part(part: RolePart, role: Role) -> &'static [u8]
+/// What a node has for its role: of a source and of a sink lines of VHDL, and of another process nothing.
+pub fn role_part(part: RolePart, role: Role) -> &'static [u8]
     ensures { result.now ≡ role_text part role }
 {
     match role {
@@ -349,8 +349,8 @@ fn write_each_loop<W: TextWriter>(part: LoopPart, process: u32, loops: &[LoopCou
     }
 }
 
-/// Writes a part for each loop.
-fn write_loops<W: TextWriter>(part: LoopPart, unit: &Unit, out: &mut W)
+/// Writes a part for each loop that the expression of a process names, ascending.
+pub fn write_loops<W: TextWriter>(part: LoopPart, unit: &Unit, out: &mut W)
     ensures { Wrote W.given out.old out.new (loops_text part unit.now) }
 {
     write_each_loop(part, unit.auto.process, unit.loops.as_slice(), out);
@@ -366,7 +366,8 @@ fn write_control<W: TextWriter>(process: u32, out: &mut W)
     );
 }
 
-fn write_entity<W: TextWriter>(unit: &Unit, out: &mut W)
+/// Writes the entity of a node, with the ports of its role and of its channels, and an empty line before it.
+pub fn write_entity<W: TextWriter>(unit: &Unit, out: &mut W)
     ensures { Wrote W.given out.old out.new (entity_text unit.now) }
 {
     write_with_number(

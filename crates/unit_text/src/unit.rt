@@ -3,6 +3,7 @@ ghost use Rattle.std.specs.Option.{option_copied};
 ghost use Rattle.script_blocks.specs.Nesting.{greatest};
 ghost use Rattle.unit_text.specs.Limits.{first_with_long_sequencer as first_with_long, gain_instructions, has_long_sequencer as has_long};
 ghost use Rattle.unit_text.specs.Units.{gain, gains_round, loop_values, names_loop, named_loops, IsCounterOf, IsSequencerOf};
+ghost use Rattle.unit_text.specs.declared.unit.Unit.{Unit};
 
 use affine_core::Vector;
 use net_core::Event;
@@ -15,7 +16,7 @@ use vhdl_text::value_at;
 use wrap_expr::Expr;
 
 /// The most instructions of a sequencer in a design.
-const MOST_INSTRUCTIONS: usize = 65_536;
+pub const MOST_INSTRUCTIONS: usize = 65_536;
 
 /// A counter for a loop that the expression of a process names.
 #[derive(Drop)]
@@ -35,6 +36,23 @@ pub struct Unit {
     pub auto: NodeAuto,
     pub control: Sequencer<Event>,
     pub loops: Items<LoopCounter>,
+}
+
+/// What has the hardware of a process.
+pub trait HasUnit {
+    ghost unit_of: { Self → Unit };
+
+    /// This hardware. It takes no memory.
+    fn unit(&self) -> &Unit
+        ensures { result.now ≡ unit_of self.now };
+}
+
+impl HasUnit for Unit {
+    ghost unit_of = { λ unit. unit };
+
+    fn unit(&self) -> &Unit {
+        self
+    }
 }
 
 // Whether an expression names the loop of this number. Its stack grows with the depth of the expression.
@@ -82,8 +100,8 @@ fn gains_of(alloc: Global, points: &[Vector], number: u32) -> Result<Items<i64>,
     Ok(gains)
 }
 
-// The sequencer of a script as it is kept.
-fn sequencer_of<T: Copy>(alloc: Global, script: &Script<T>) -> Result<Sequencer<T>, AllocError>
+/// The sequencer of a script as it is kept, or want of memory.
+pub fn sequencer_of<T: Copy>(alloc: Global, script: &Script<T>) -> Result<Sequencer<T>, AllocError>
     ensures { IfOk result (IsSequencerOf script.now) }
 {
     Sequencer::of_blocks(alloc, script.blocks())
@@ -131,8 +149,8 @@ fn loop_counters(alloc: Global, auto: &NodeAuto) -> Result<Items<LoopCounter>, A
     Ok(loops)
 }
 
-// The most instructions that the sequencer of one of these counters has.
-fn longest_of(loops: &[LoopCounter]) -> usize
+/// The most instructions that the sequencer of one of these counters has. It takes no memory.
+pub fn longest_of(loops: &[LoopCounter]) -> usize
     ensures { result ≡ greatest (map gain_instructions loops.now) }
 {
     let mut most: usize = 0;

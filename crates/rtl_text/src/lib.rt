@@ -12,4 +12,5 @@ pub use laws::{
     designs_run_by_clock, network_ports_differ, node_ports_are_joined_in_order,
     short_scripts_have_short_sequencers, units_make_a_design,
 };
+pub use network::{write_body, write_channel, write_entity};
 pub use text::write_rtl;

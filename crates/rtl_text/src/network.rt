@@ -1,4 +1,4 @@
-ghost use Rattle.std.specs.Prelude.{◌≡◌, ◌==◌, ◌++◌, [], codes, false, if◌then◌else◌};
+ghost use Rattle.std.specs.Prelude.{◌≡◌, ◌==◌, ◌++◌, [], codes, false, if◌then◌else◌, map};
 ghost use Rattle.std.specs.List.{flat_map};
 ghost use Rattle.text_out.specs.Wrote.{Wrote};
 ghost use Rattle.unit_text.specs.Ports.{port_line};
@@ -10,7 +10,7 @@ ghost use Rattle.rtl_text.specs.Ports.{array_ports, outer_ports, port_lines};
 use net_core::{Channel, Network};
 use sanlp::{Nest, Role};
 use text_out::{TextWriter, write_number};
-use unit_text::{Unit, write_unit};
+use unit_text::{HasUnit, Unit, write_unit};
 use vhdl_text::write_with_number;
 
 /// What the text of a design has for the hardware of a process.
@@ -201,7 +201,7 @@ fn sink_names(nest: &Nest, array: u32) -> PortNames<'_>
 }
 
 /// Writes the channel's entity, with an empty line before it.
-pub(crate) fn write_channel<W: TextWriter>(out: &mut W)
+pub fn write_channel<W: TextWriter>(out: &mut W)
     ensures { Wrote W.given out.old out.new channel_text }
 {
     out.put(
@@ -397,18 +397,26 @@ fn write_unit_part<W: TextWriter>(part: UnitPart, nest: &Nest, unit: &Unit, out:
     }
 }
 
+fn write_each_unit<U: HasUnit, W: TextWriter>(part: UnitPart, nest: &Nest, units: &[U], out: &mut W)
+    ensures { Wrote W.given out.old out.new
+        (flat_map (λ holder. unit_part_text part nest.now (U.unit_of holder)) units.now) }
+{
+    for holder in units {
+        write_unit_part(part, nest, holder.unit(), out);
+    }
+}
+
 /// Writes a part for each of these units.
-pub(crate) fn write_for_units<W: TextWriter>(
+pub(crate) fn write_for_units<U: HasUnit, W: TextWriter>(
     part: UnitPart,
     nest: &Nest,
-    units: &[Unit],
+    units: &[U],
     out: &mut W,
 )
-    ensures { Wrote W.given out.old out.new (for_units part nest.now units.now) }
+    ensures { Wrote W.given out.old out.new
+        (for_units part nest.now (map U.unit_of units.now)) }
 {
-    for unit in units {
-        write_unit_part(part, nest, unit, out);
-    }
+    write_each_unit(part, nest, units, out);
 }
 
 /// Writes the instance of a channel.
@@ -469,9 +477,10 @@ fn write_for_channels<W: TextWriter>(part: ChannelPart, channels: &[Channel], ou
     }
 }
 
-/// Writes the entity of the network, with an empty line before it.
-pub(crate) fn write_entity<W: TextWriter>(nest: &Nest, units: &[Unit], out: &mut W)
-    ensures { Wrote W.given out.old out.new (network_entity nest.now units.now) }
+/// Writes the entity of the network of these units, with an empty line before it.
+pub fn write_entity<U: HasUnit, W: TextWriter>(nest: &Nest, units: &[U], out: &mut W)
+    ensures { Wrote W.given out.old out.new
+        (network_entity nest.now (map U.unit_of units.now)) }
 {
     out.put(
         b"\nlibrary ieee;\nuse ieee.std_logic_1164.all;\nuse ieee.numeric_std.all;\nentity network is\n  port (\n    clk : in std_logic;\n    rst : in std_logic;\n    again : in std_logic;\n",
@@ -480,9 +489,15 @@ pub(crate) fn write_entity<W: TextWriter>(nest: &Nest, units: &[Unit], out: &mut
     out.put(b"    done : out std_logic\n  );\nend entity;\n");
 }
 
-/// Writes the architecture of the network.
-pub(crate) fn write_body<W: TextWriter>(nest: &Nest, network: &Network, units: &[Unit], out: &mut W)
-    ensures { Wrote W.given out.old out.new (network_body nest.now network.now units.now) }
+/// Writes the architecture of the network: its channels, and the nodes of these units.
+pub fn write_body<U: HasUnit, W: TextWriter>(
+    nest: &Nest,
+    network: &Network,
+    units: &[U],
+    out: &mut W,
+)
+    ensures { Wrote W.given out.old out.new
+        (network_body nest.now network.now (map U.unit_of units.now)) }
 {
     let channels = network.channels.as_slice();
     out.put(b"architecture rtl of network is\n");

@@ -1,3 +1,4 @@
+use Rattle.std.proofs.lemmas.List.{map-id}
 use Rattle.text_out.proofs.Wrote.{Wrote-append}
 use Rattle.vhdl_text.proofs.Sequences.{Wrote-last}
 use Rattle.rtl_text.proofs.text.write_text.Goals as goal
@@ -5,8 +6,9 @@ use Rattle.rtl_text.proofs.text.write_text.Goals as goal
 pub returns : goal.returns
 returns g c =
     let w = g.W.TextWriter.given in
+    let same = map-id c.args.units.now in
     Wrote-append w _ _ c.put.ensures
     (Wrote-append w _ _ (rw c.as_slice.ensures at c.write_channels.ensures)
     (Wrote-append w _ _ c.write_channel.ensures
-    (Wrote-append w _ _ c.write_for_units.ensures
-    (Wrote-append w _ _ c.write_entity.ensures (Wrote-last w _ c.write_body.ensures)))))
+    (Wrote-append w _ _ (rw same at c.write_for_units.ensures)
+    (Wrote-append w _ _ (rw same at c.write_entity.ensures) (Wrote-last w _ (rw same at c.write_body.ensures))))))

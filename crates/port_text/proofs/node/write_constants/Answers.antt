@@ -1,0 +1,12 @@
+use Rattle.text_out.proofs.Wrote.{Wrote-append}
+use Rattle.vhdl_text.proofs.Sequences.{Wrote-last}
+use Rattle.port_text.proofs.node.write_constants.Goals as goal
+
+pub returns : goal.returns
+returns g c =
+    let w = g.W.TextWriter.given in
+    Wrote-append w _ _ (rw c.from.ensures at c.write_with_number.ensures)
+    (Wrote-append w _ _ c.write_all_gets.ensures
+    (Wrote-append w _ _ c.write_all_puts.ensures
+    (Wrote-append w _ _ c.write_reads.ensures
+    (Wrote-last w _ c.write_loops.ensures))))

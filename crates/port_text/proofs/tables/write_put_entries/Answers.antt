@@ -1,0 +1,12 @@
+use Rattle.port_items.specs.declared.items.PutItem.{PutItem}
+use Rattle.port_text.specs.Tables.{put_value}
+use Rattle.vhdl_text.proofs.Sequences.{entry_more}
+use Rattle.repeat_sequencer.specs.declared.sequencer.Instruction.{Instruction}
+use Rattle.port_text.proofs.tables.write_put_entries.Goals as goal
+
+pub loop-index-preserved : goal.loop-index-preserved
+loop-index-preserved g c =
+    entry_more g.W.TextWriter.given (λ (i : Instruction PutItem). put_value i.item)
+    c.args.instructions.now c.loop-index.index
+    c.index-instructions-index.result _ c.loop-index-test.true c.index-instructions-index.is c.put_number.ensures
+    c.loop-index.invariant c.write_entry.ensures

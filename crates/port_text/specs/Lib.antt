@@ -1,0 +1,5 @@
+pub mod Units
+pub mod Limits
+pub mod Tables
+pub mod Ports
+pub mod Nodes

@@ -261,6 +261,7 @@ def faults() -> Iterator[Fault]:
     for check, words in (("../hardware/least_clocks", kernel), ("hardware/least_clocks.py", ["--quick", "matrix_product"])):
         yield Fault(check, words, "rtl: another number of clocks", other_clocks, RTL)
         yield Fault(check, words, "capacities that aren't the least", not_least)
+    yield Fault("hardware/port_clocks.py", ["--quick", "fir"], "rtl: another number of clocks", other_clocks, RTL)
     yield Fault("check_c.py", ["gemm"], "run: another value", spoiled("run", rb",", b",1"))
     yield Fault("check_isl.py", FEW, "deps: another writer", spoiled("deps", rb"(?m)^w 0 ", b"w 1 "))
     yield Fault("check_isl.py", FEW, "deps: another test", spoiled("deps", rb"(?m)^t (-?\d+) ", rb"t \g<1>1 "))

@@ -6,8 +6,8 @@ usage: tools/docs/pages.py [--program]             compares each part with its p
        tools/docs/pages.py [--program] --write     puts them into their pages
        tools/docs/pages.py --printed NAME FILE     puts what a script of measures printed into its page: measures of tools/bench/all.py,
                                                    counts and flow of the scripts of tools/bench that bear these names, limits of
-                                                   sections of tools/hostile/limits.py, designs, synthesis, large, folds and
-                                                   least_clocks of the scripts that bear these names in tools/hardware, parts of
+                                                   sections of tools/hostile/limits.py, designs, synthesis, large, folds, least_clocks
+                                                   and port_clocks of the scripts that bear these names in tools/hardware, parts of
                                                    hardware/synthesize
        tools/docs/pages.py --sentences             lists the definitions whose comment lacks, or tells nothing by itself
 
@@ -25,7 +25,7 @@ aims         what the tables of measures say beside the aims
 capacities   of each example the sum of the capacities and the greatest one, by each policy and by trim: by the program
 measures, counts, flow, limits     tables of time, instructions and memory, which nothing compares
 designs             of each example the sizes of its design and the clocks, which are compared with those beside its answer
-synthesis, parts, large, folds, least_clocks     tables of what is made of designs, which nothing compares
+synthesis, parts, large, folds, least_clocks, port_clocks     tables of what is made of designs, which nothing compares
 
 The picture of the layers, docs/layers.svg, and the crates and numbers of edits in the table of docs/CONTRIBUTING.md, which tools/gate.py
 prints, are compared too.
@@ -299,7 +299,7 @@ PARTS: dict[str, tuple[str, Callable[[str], str]]] = {
 # The tables of measures, each with its page.
 TABLES = {
     **dict.fromkeys(("measures", "counts", "flow"), "docs/MEASURES.md"),
-    **dict.fromkeys(("designs", "synthesis", "parts", "large", "folds", "least_clocks"), "docs/RTL.md"),
+    **dict.fromkeys(("designs", "synthesis", "parts", "large", "folds", "least_clocks", "port_clocks"), "docs/RTL.md"),
 }
 # What the program prints into a page.
 BY_PROGRAM: dict[str, tuple[str, Callable[[str], str]]] = {"capacities": ("docs/NETWORK.md", capacities)}

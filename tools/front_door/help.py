@@ -4,7 +4,7 @@ from __future__ import annotations
 import re
 from collections.abc import Iterable
 
-from .words import CLOCKS, COMMANDS, OF_RTL, OWN
+from .words import CLOCKS, COMMANDS, OF_RTL, OWN, PORTS
 
 OPTIONS = {
     "FILE": "the source; - or none is standard input",
@@ -21,6 +21,7 @@ OPTIONS = {
 DESIGNING = {
     "--policy least": "capacities below those of down, none of which can be lowered",
     CLOCKS: "writes the number of clocks in place of the design, and beside least capacities that with those of down",
+    f"{PORTS} all": "with --clocks: that number where each end of a channel at a process goes at its own pace; one is the default",
 }
 
 BUILDING = {
@@ -77,7 +78,7 @@ def command_help(command: str) -> str:
         words += ["[--data FILE]"] if "data" in reads else []
         words += ["--certificate FILE"] if "certificate" in reads else []
         words += ["[--isl]"] if command == "deps" else []
-        words += [f"[{CLOCKS}]"] if command == OF_RTL else []
+        words += [f"[{PORTS} one|all]", f"[{CLOCKS}]"] if command == OF_RTL else []
         words += ["[--unproved]"]
     said = " ".join(words)
     options = BUILDING if command == "build" else FROM_C if command == "c" else OPTIONS | (DESIGNING if command == OF_RTL else {})

@@ -5,7 +5,7 @@ import argparse
 from typing import NoReturn
 
 from .base import Status, Stop, printable
-from .words import Options
+from .words import PORTS, Options
 
 
 class Parser(argparse.ArgumentParser):
@@ -24,6 +24,7 @@ def options_of(arguments: list[str]) -> Options:
     parser.add_argument("--unproved", action="store_true")
     parser.add_argument("--help", "-h", action="store_true")
     parser.add_argument("--policy", action="append", nargs="?", default=[])
+    parser.add_argument(PORTS, action="append", nargs="?", default=[])
     options = Options()
     _, options.rest = parser.parse_known_args(arguments, options)
     return options

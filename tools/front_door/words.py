@@ -23,8 +23,8 @@ COMMANDS = {
 }
 # The command of the second program, which gets the words behind it.
 OF_RTL = "rtl"
-# An option of the second program, which it judges.
-CLOCKS = "--clocks"
+# Options of the second program, which it judges.
+CLOCKS, PORTS = "--clocks", "--ports"
 OWN = ("draw", "report", "c", "build", "help")
 
 RESERVED = "param in out inout var int for if else min max".split()
@@ -70,8 +70,9 @@ class Options:
         self.data: list[str] = []
         self.certificate: list[str] = []
         self.isl = self.unproved = self.help = False
-        # The program judges it, also where it stands twice or has no value.
+        # The program judges these, also where one stands twice or has no value.
         self.policy: "list[str | None]" = []
+        self.ports: "list[str | None]" = []
         self.rest: list[str] = []
 
 
@@ -88,9 +89,9 @@ def plain_options(arguments: list[str]) -> "Options | None":
             found.isl = True
         elif word == CLOCKS:
             found.rest.append(word)
-        elif word in ("--data", "--certificate", "--policy"):
+        elif word in ("--data", "--certificate", "--policy", PORTS):
             value = next(words, "--")
-            if value.startswith("-") and (value != "-" or word == "--policy"):
+            if value.startswith("-") and (value != "-" or word in ("--policy", PORTS)):
                 return None
             getattr(found, word[2:]).append(value)
         else:
@@ -120,8 +121,9 @@ def words_of(arguments: list[str]) -> Words:
             words.command = word
         words.has_number = words.has_number or (words.command != word and is_number)
         words.passed.append(word)
-    for value in options.policy:
-        words.passed += ["--policy", value] if value is not None else ["--policy"]
+    for option, values in (("--policy", options.policy), (PORTS, options.ports)):
+        for value in values:
+            words.passed += [option, value] if value is not None else [option]
     words.passed += arguments[cut:]
     return words
 

@@ -4,7 +4,7 @@ from __future__ import annotations
 import difflib
 import re
 
-from .words import CLOCKS, COMMANDS, OF_RTL, OWN, RESERVED, Words, is_name, is_option
+from .words import CLOCKS, COMMANDS, OF_RTL, OWN, PORTS, RESERVED, Words, is_name, is_option
 
 
 def said_of(words: Words) -> str | None:
@@ -20,29 +20,34 @@ def said_of(words: Words) -> str | None:
 def wrong_word(passed: list[str], is_rtl: bool) -> str | None:
     """What is wrong with the words that the program, the second one for rtl, refused, or None where nothing is found."""
     cut = passed.index("--") if "--" in passed else len(passed)
-    words, policies = list(passed), 0
+    words = list(passed)
     kept: list[str] = []
+    given: dict[str, str] = {}
+    values = {"--policy": ("seq", "down", "least") if is_rtl else ("seq", "down")} | ({PORTS: ("one", "all")} if is_rtl else {})
     at = 0
     while at < len(words):
         word = words[at]
         if at == cut:
             kept += words[at + 1 :]
             break
-        if word == "--policy" or word.startswith("--policy="):
+        option = word.partition("=")[0]
+        if option in values:
             value = word.partition("=")[2] if "=" in word else (words[at + 1] if at + 1 < cut else "")
             at += "=" not in word
-            policies += 1
-            if value not in ("seq", "down", *(["least"] if is_rtl else [])):
-                return f"--policy is {'seq, down or least' if is_rtl else 'seq or down'}, and not {value!r}"
-            if policies > 1:
-                return "--policy stands twice"
+            if value not in values[option]:
+                return f"{option} is {', '.join(values[option][:-1])} or {values[option][-1]}, and not {value!r}"
+            if option in given:
+                return f"{option} stands twice"
+            given[option] = value
         elif is_rtl and word == CLOCKS:
-            pass
+            given[CLOCKS] = word
         elif is_option(word):
             return f"there is no option {word}"
         else:
             kept.append(word)
         at += 1
+    if given.get(PORTS) == "all" and CLOCKS not in given:
+        return f"{PORTS} all is taken beside {CLOCKS} alone"
     if not kept:
         return "there is no command"
     command, *rest = kept

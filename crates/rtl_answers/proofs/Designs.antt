@@ -1,6 +1,6 @@
 -- What a design comes to, from what its steps come to: the source gives no nest, or a design of the nest's network is made, or the
 -- control of a process is too long.
-use Rattle.std.proofs.Common.{◌≡◌, ℕ, ℤ, Bool, List, Result, Ok, Err, refl, subst, sym}
+use Rattle.std.proofs.Common.{◌≡◌, ℕ, ℤ, List, Result, Ok, Err, refl, subst, sym}
 use Rattle.bundle.specs.Parts.{source_part}
 use Rattle.sanlp.specs.declared.nest.Nest.{Nest}
 use Rattle.net_core.specs.declared.network.Network.{Network}
@@ -12,6 +12,7 @@ use Rattle.command_answers.specs.declared.refusal.Refusal.{Refusal}
 use Rattle.command_answers.specs.declared.refusal.Stop.{Stop}
 use Rattle.command_answers.proofs.Stops.{Judges-Err, nest_is}
 use Rattle.rtl_line.specs.declared.words.Policy.{Policy}
+use Rattle.rtl_line.specs.declared.words.Task.{Task}
 use Rattle.rtl_answers.specs.declared.answer.Answer.{Answer}
 use Rattle.rtl_answers.specs.declared.answer.Answer.TheVariants as answer
 use Rattle.rtl_answers.specs.declared.design.Design.{Design}
@@ -40,13 +41,13 @@ undesigned policy params bundle source nest stop is gives =
     subst (λ (r : Refusal). Designs policy params bundle (Err r)) (sym step.4)
     (script_refused nest step.0 step.1 (nest_is params bundle source (Ok nest) is gives) step.2 step.3))
 
--- an answer is judged by whether the clocks are asked for
-pub judged_with : (wanted flag : Bool) (policy : Policy) (params : List (List ℕ × ℤ)) (bundle : List ℕ)
-    (result : Result Answer Stop) → flag ≡ wanted
+-- an answer is judged by what is asked for
+pub judged_with : (wanted task : Task) (policy : Policy) (params : List (List ℕ × ℤ)) (bundle : List ℕ)
+    (result : Result Answer Stop) → task ≡ wanted
     → Judges (λ (made : Result Answer Refusal). AnswersWith wanted policy params bundle (as_reply made)) result
-    → Judges (λ (made : Result Answer Refusal). AnswersWith flag policy params bundle (as_reply made)) result
-judged_with wanted flag policy params bundle result is judged =
+    → Judges (λ (made : Result Answer Refusal). AnswersWith task policy params bundle (as_reply made)) result
+judged_with wanted task policy params bundle result is judged =
     subst
-    (λ (b : Bool).
-    Judges (λ (made : Result Answer Refusal). AnswersWith b policy params bundle (as_reply made)) result) (sym is)
+    (λ (t : Task).
+    Judges (λ (made : Result Answer Refusal). AnswersWith t policy params bundle (as_reply made)) result) (sym is)
     judged

@@ -1,7 +1,9 @@
 -- What the program `compaan_rtl` comes to on a bundle, a design or the clocks.
-use Rattle.std.specs.Prelude.{ℕ, ℤ, Bool, true, false, List, Result, Ok, Err}
+use Rattle.std.specs.Prelude.{ℕ, ℤ, List, Result, Ok, Err}
 use Rattle.rtl_line.specs.declared.words.Order.{Order}
 use Rattle.rtl_line.specs.declared.words.Policy.{Policy}
+use Rattle.rtl_line.specs.declared.words.Task.{Task}
+use Rattle.rtl_line.specs.declared.words.Task.TheVariants as task
 use Rattle.rtl_text.specs.Networks.{rtl_text}
 use Rattle.command_answers.specs.Printing.{Prints}
 use Rattle.command_answers.specs.Replies.{Reply, done}
@@ -25,12 +27,12 @@ abbrev pub as_reply : Result Answer Refusal → Result Reply Refusal
 as_reply (Ok answer) = Ok (reply_of answer)
 as_reply (Err refusal) = Err refusal
 
--- the clocks where they are asked for, and else a design
-abbrev pub AnswersWith : Bool → Policy → List (List ℕ × ℤ) → List ℕ → Result Reply Refusal
+-- a design, or where they are asked for its clocks, with ports that take turns so
+abbrev pub AnswersWith : Task → Policy → List (List ℕ × ℤ) → List ℕ → Result Reply Refusal
     → Type 0
-AnswersWith true policy = Prints (clocks_text policy)
-AnswersWith false policy = Designs policy
+AnswersWith task.Design policy = Designs policy
+AnswersWith (task.Clocks ports) policy = Prints (clocks_text ports policy)
 
 -- what an order comes to on a bundle
 abbrev pub Answers : Order → List ℕ → Result Reply Refusal → Type 0
-Answers order = AnswersWith order.clocks order.policy order.params
+Answers order = AnswersWith order.task order.policy order.params

@@ -26,7 +26,7 @@ use Rattle.rtl_answers.specs.declared.answer.Answer.{Answer}
 abbrev pub usage_line : List ℕ
 usage_line =
     line_text
-    (codes "usage: compaan_rtl [NAME=VALUE].. [--policy seq|down|least] [--clocks]" ∷ [])
+    (codes "usage: compaan_rtl [NAME=VALUE].. [--policy seq|down|least] [--ports one|all] [--clocks]" ∷ [])
 
 abbrev pub usage_outcome : Outcome
 usage_outcome = record { status = WordsRefused; output = []; complaint = usage_line }

@@ -7,7 +7,7 @@ use crate::clocks::{Clocks, count_clocks, write_clocks};
 use crate::design::{Design, design_network};
 use command_answers::Stop;
 use io_edge::{Sink, WriteFault};
-use rtl_line::Order;
+use rtl_line::{Order, Task};
 use rtl_text::write_rtl;
 use std::alloc::Global;
 
@@ -23,10 +23,9 @@ pub(crate) fn answer_to(alloc: Global, order: &Order, bundle: &[u8]) -> Result<A
     requires { length bundle.now < 2 ^ 32 }
     ensures { Judges (λ answer. Answers order.now bundle.now (as_reply answer)) result }
 {
-    if order.clocks {
-        count_clocks(alloc, order.policy, &order.params, bundle)
-    } else {
-        design_network(alloc, order.policy, &order.params, bundle)
+    match order.task {
+        Task::Design => design_network(alloc, order.policy, &order.params, bundle),
+        Task::Clocks(ports) => count_clocks(alloc, ports, order.policy, &order.params, bundle),
     }
 }
 

@@ -45,7 +45,9 @@ fn write_usage<K: Sink>(sink: &mut K) -> Result<(), WriteFault>
 {
     let mut out = Writer::new(sink);
     write_line(
-        &[Word::Text(b"usage: compaan_rtl [NAME=VALUE].. [--policy seq|down|least] [--clocks]")],
+        &[Word::Text(
+            b"usage: compaan_rtl [NAME=VALUE].. [--policy seq|down|least] [--ports one|all] [--clocks]",
+        )],
         &mut out,
     );
     out.finish()
@@ -85,8 +87,8 @@ fn carry_out<S: Source, K: Sink, E: Sink>(
 }
 
 /// All that the program `compaan_rtl` does: it writes a design of the network of a bundle's source (as ESPAM writes one for a network,
-/// here with control by counters), or how many clocks that network takes. `EndsDesign` has how the call may end, whatever the source
-/// and the sinks are.
+/// here with control by counters), or how many clocks that network takes: with one port of a process after the other, as in that
+/// design, or with each at its own pace. `EndsDesign` has how the call may end, whatever the source and the sinks are.
 ///
 /// The bundle is that of `compaan`, and so are the refusals of it and the statuses. The number that it answers is that of a
 /// `Status`: 0 where a design or the clocks were written, 2 where the words are refused, 3 and 4 where the source or a sink failed, 5

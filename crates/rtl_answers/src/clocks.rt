@@ -1,4 +1,7 @@
 ghost use Rattle.std.specs.Prelude.{◌≡◌, ◌<◌, ◌^◌, length, IfOk};
+ghost use Rattle.net_core.specs.Machine.{net_of};
+ghost use Rattle.net_core.specs.Shape.{FitsNumbers};
+ghost use Rattle.net_core.specs.Sound.{IsSound};
 ghost use Rattle.sanlp.specs.Points.{points_of};
 ghost use Rattle.sanlp.specs.Size.{SizeIsOk};
 ghost use Rattle.text_out.specs.Wrote.{Wrote};
@@ -6,7 +9,8 @@ ghost use Rattle.command_answers.specs.Judging.{Judges};
 ghost use Rattle.command_answers.specs.Printing.{Prints};
 ghost use Rattle.call_endings.specs.Changes.{Writes, change};
 ghost use Rattle.rtl_answers.specs.Answering.{as_reply};
-ghost use Rattle.rtl_answers.specs.Clocking.{clocks_for, clocks_lines, clocks_of, clocks_text, down_clocks};
+ghost use Rattle.clock_sim.specs.Clocks.{clocks};
+ghost use Rattle.rtl_answers.specs.Clocking.{clocks_for, clocks_lines, clocks_of, clocks_text, clocks_with, down_clocks};
 
 use crate::answer::Answer;
 use crate::networks::network_for;
@@ -16,9 +20,11 @@ use command_answers::{Stop, sized_nest};
 use io_edge::{Sink, WriteFault};
 use loop_class::Params;
 use loop_walk::points;
+use net_core::Network;
 use node_automata::automata;
 use plain_data::Items;
-use rtl_line::Policy;
+use port_sim::{clock_count, sound_networks_end};
+use rtl_line::{Policy, Ports};
 use sanlp::{Inputs, Nest, Points};
 use std::alloc::{AllocError, Global};
 use text_out::{TextWriter, Word, Writer, write_line};
@@ -31,70 +37,110 @@ pub struct Clocks {
     pub down: Option<u64>,
 }
 
-// The number of clocks of a nest's network. It doesn't hang on values, so the arrays that are given are empty.
+// The number of clocks of the clocked run of a network's scripts. It doesn't hang on values, so the arrays that are given are empty.
+fn script_clocks(
+    alloc: Global,
+    nest: &Nest,
+    points: &Points,
+    network: &Network,
+) -> Result<u64, AllocError>
+    requires points { points.now.of ≡ points_of nest.now }
+    requires numbers { FitsNumbers (net_of network.now) }
+    requires sound { IsSound nest.now network.now }
+    ensures { IfOk result (λ count. count ≡ clocks (net_of network.now)) }
+{
+    let autos = automata(alloc, nest, points, network)?;
+    let nothing = Inputs {
+        arrays: Items::new(alloc),
+    };
+    let clocked = simulate(alloc, nest, points, &nothing, network, &autos)?;
+    Ok(clocked.clocks)
+}
+
+// The number of clocks of a network whose ports take turns so.
+fn clocks_with(
+    alloc: Global,
+    ports: Ports,
+    nest: &Nest,
+    points: &Points,
+    network: &Network,
+) -> Result<u64, AllocError>
+    requires points { points.now.of ≡ points_of nest.now }
+    requires numbers { FitsNumbers (net_of network.now) }
+    requires sound { IsSound nest.now network.now }
+    ensures { IfOk result (λ count. count ≡ clocks_with ports (net_of network.now)) }
+{
+    match ports {
+        Ports::One => script_clocks(alloc, nest, points, network),
+        Ports::All => {
+            sound_networks_end();
+            clock_count(alloc, network)
+        }
+    }
+}
+
+// The number of clocks of a nest's network.
 fn clocks_for(
     alloc: Global,
+    ports: Ports,
     policy: Policy,
     nest: &Nest,
     points: &Points,
 ) -> Result<u64, AllocError>
     requires size { SizeIsOk nest.now }
     requires points { points.now.of ≡ points_of nest.now }
-    ensures { IfOk result (λ clocks. clocks ≡ clocks_for policy nest.now) }
+    ensures { IfOk result (λ count. count ≡ clocks_for ports policy nest.now) }
 {
     let network = network_for(alloc, policy, nest, points)?;
-    let autos = automata(alloc, nest, points, &network)?;
-    let nothing = Inputs {
-        arrays: Items::new(alloc),
-    };
-    let clocked = simulate(alloc, nest, points, &nothing, &network, &autos)?;
-    Ok(clocked.clocks)
+    clocks_with(alloc, ports, nest, points, &network)
 }
 
 // Beside least capacities, the number of clocks with those that the schedule `down` needs.
 fn down_clocks(
     alloc: Global,
+    ports: Ports,
     policy: Policy,
     nest: &Nest,
     points: &Points,
 ) -> Result<Option<u64>, AllocError>
     requires size { SizeIsOk nest.now }
     requires points { points.now.of ≡ points_of nest.now }
-    ensures { IfOk result (λ down. down ≡ down_clocks policy nest.now) }
+    ensures { IfOk result (λ down. down ≡ down_clocks ports policy nest.now) }
 {
     match policy {
         Policy::Seq | Policy::Down => Ok(None),
         Policy::Least => {
-            let clocks = clocks_for(alloc, Policy::Down, nest, points)?;
+            let clocks = clocks_for(alloc, ports, Policy::Down, nest, points)?;
             Ok(Some(clocks))
         }
     }
 }
 
-fn clocks_of(alloc: Global, policy: Policy, nest: &Nest) -> Result<Clocks, AllocError>
+fn clocks_of(alloc: Global, ports: Ports, policy: Policy, nest: &Nest) -> Result<Clocks, AllocError>
     requires { SizeIsOk nest.now }
-    ensures { IfOk result (λ told. told ≡ clocks_of policy nest.now) }
+    ensures { IfOk result (λ told. told ≡ clocks_of ports policy nest.now) }
 {
     let points = points(alloc, nest)?;
-    let clocks = clocks_for(alloc, policy, nest, &points)?;
-    let down = down_clocks(alloc, policy, nest, &points)?;
+    let clocks = clocks_for(alloc, ports, policy, nest, &points)?;
+    let down = down_clocks(alloc, ports, policy, nest, &points)?;
     Ok(Clocks { clocks, down })
 }
 
-/// The clocks of the network of a bundle's source.
+/// The clocks of the network of a bundle's source, where its ports take turns so.
 pub(crate) fn count_clocks(
     alloc: Global,
+    ports: Ports,
     policy: Policy,
     params: &Params,
     bundle: &[u8],
 ) -> Result<Answer, Stop>
     requires { length bundle.now < 2 ^ 32 }
     ensures { Judges
-        (λ answer. Prints (clocks_text policy) params.now bundle.now (as_reply answer)) result }
+        (λ answer. Prints (clocks_text ports policy) params.now bundle.now (as_reply answer)) result }
 {
     let parts = parts_of(bundle);
     let nest = sized_nest(alloc, parts.source, params)?;
-    let told = clocks_of(alloc, policy, &nest)?;
+    let told = clocks_of(alloc, ports, policy, &nest)?;
     Ok(Answer::Clocks(told))
 }
 

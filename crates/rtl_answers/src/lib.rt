@@ -16,5 +16,5 @@ pub use answer::Answer;
 pub use call::compaan_rtl;
 pub use clocks::Clocks;
 pub use design::Design;
-pub use laws::answered_clocks_are_those_of_designs;
+pub use laws::{answered_clocks_are_those_of_designs, answered_port_clocks_end};
 pub use program::run_design_program;

@@ -11,5 +11,6 @@ abbrev pub joined : Split → Split → Split
 joined before later = record {
   items = before.items ++ later.items;
   policies = before.policies ++ later.policies;
+  ports = before.ports ++ later.ports;
   clocks = if before.clocks then true else later.clocks;
 }

@@ -9,6 +9,7 @@ abbrev pub found_in : Found → Split
 found_in found = record {
   items = map (λ item. item.now) found.items.items;
   policies = map (λ value. value.now) found.policies.items;
+  ports = map (λ value. value.now) found.ports.items;
   clocks = found.clocks;
 }
 

@@ -1,7 +1,7 @@
 ghost use Rattle.std.specs.Prelude.{◌≡◌, IfOk, OnOk, map, string_bytes};
 ghost use Rattle.std.specs.Option.{option_map};
 ghost use Rattle.rtl_line.specs.Splits.{found_in, rest_of};
-ghost use Rattle.rtl_line.specs.Words.{is_option as begins_as_option, ReadsOrder, kind_of, order_of, policy_named, policy_of, split_words};
+ghost use Rattle.rtl_line.specs.Words.{is_option as begins_as_option, ReadsOrder, kind_of, order_of, policy_named, policy_of, ports_named, ports_of, split_words, task_of};
 
 use command_line::{WordsError, params_of};
 use loop_bind::Params;
@@ -18,12 +18,29 @@ pub enum Policy {
     Least,
 }
 
-/// What the words order: the capacities that are wanted, whether the clocks are to be told in place of the design, and values for
-/// parameters.
+/// How the ports of a process, which are the ends of channels there, take turns.
+#[derive(Clone, Copy, Debug, PartialEq, Eq)]
+pub enum Ports {
+    /// At each clock one of them moves, or the process fires, in the order of the process's script.
+    One,
+    /// At each clock all of them may move, and the process fire: between two fires each port goes at its own pace.
+    All,
+}
+
+/// What is to be written.
+#[derive(Clone, Copy, Debug, PartialEq, Eq)]
+pub enum Task {
+    /// The design.
+    Design,
+    /// The number of clocks in its place, where ports take turns so.
+    Clocks(Ports),
+}
+
+/// What the words order: the capacities that are wanted, what is to be written, and values for parameters.
 #[derive(Drop)]
 pub struct Order {
     pub policy: Policy,
-    pub clocks: bool,
+    pub task: Task,
     pub params: Params,
 }
 
@@ -36,6 +53,10 @@ pub(crate) enum Kind {
     Policy,
     /// `--policy=VALUE`.
     PolicyValue,
+    /// `--ports`, whose value is the next word.
+    Ports,
+    /// `--ports=VALUE`.
+    PortsValue,
     /// `--clocks`.
     Clocks,
     /// Another option.
@@ -48,6 +69,7 @@ pub(crate) enum Kind {
 pub(crate) struct Split<'a> {
     pub(crate) items: Vec<&'a str>,
     pub(crate) policies: Vec<&'a [u8]>,
+    pub(crate) ports: Vec<&'a [u8]>,
     pub(crate) clocks: bool,
 }
 
@@ -66,6 +88,10 @@ fn kind_of(word: &[u8]) -> Kind
         Kind::Policy
     } else if word.starts_with(b"--policy=") {
         Kind::PolicyValue
+    } else if word == b"--ports".as_slice() {
+        Kind::Ports
+    } else if word.starts_with(b"--ports=") {
+        Kind::PortsValue
     } else if word == b"--clocks".as_slice() {
         Kind::Clocks
     } else if is_option(word) {
@@ -86,7 +112,7 @@ fn add_items<'a>(split: &mut Split<'a>, words: &'a [String]) -> Result<(), Alloc
     Ok(())
 }
 
-// The words taken apart, or none where one before the first `--` is another option, or `--policy` is the last.
+// The words taken apart, or none where one before the first `--` is another option, or `--policy` or `--ports` is the last.
 fn split_words<'a>(alloc: Global, words: &'a [String]) -> Result<Option<Split<'a>>, AllocError>
     ensures { IfOk result
         (λ split. option_map found_in split ≡ split_words (map string_bytes words.now)) }
@@ -94,6 +120,7 @@ fn split_words<'a>(alloc: Global, words: &'a [String]) -> Result<Option<Split<'a
     let mut split = Split {
         items: Vec::new(alloc),
         policies: Vec::new(alloc),
+        ports: Vec::new(alloc),
         clocks: false,
     };
     let mut left = words;
@@ -112,6 +139,14 @@ fn split_words<'a>(alloc: Global, words: &'a [String]) -> Result<Option<Split<'a
                 left = others;
             }
             Kind::PolicyValue => split.policies.push(&word.as_bytes()[9..])?,
+            Kind::Ports => {
+                let [value, others @ ..] = behind else {
+                    return Ok(None);
+                };
+                split.ports.push(value.as_bytes())?;
+                left = others;
+            }
+            Kind::PortsValue => split.ports.push(&word.as_bytes()[8..])?,
             Kind::Clocks => split.clocks = true,
             Kind::Unknown => return Ok(None),
             Kind::Item => split.items.push(word.as_str())?,
@@ -145,11 +180,49 @@ fn policy_of(values: &[&[u8]]) -> Option<Policy>
     }
 }
 
+fn ports_named(value: &[u8]) -> Option<Ports>
+    ensures { result ≡ ports_named value.now }
+{
+    if value == b"one".as_slice() {
+        Some(Ports::One)
+    } else if value == b"all".as_slice() {
+        Some(Ports::All)
+    } else {
+        None
+    }
+}
+
+// How ports take turns by the values that are given, of which there is at most one.
+fn ports_of(values: &[&[u8]]) -> Option<Ports>
+    ensures { result ≡ ports_of (map (λ value. value.now) values.now) }
+{
+    match values {
+        [] => Some(Ports::One),
+        [value] => ports_named(value),
+        _ => None,
+    }
+}
+
+// What is to be written. No design is written whose ports go each at its own pace.
+fn task_of(clocks: bool, ports: Ports) -> Option<Task>
+    ensures { result ≡ task_of clocks ports }
+{
+    if clocks {
+        return Some(Task::Clocks(ports));
+    }
+    match ports {
+        Ports::One => Some(Task::Design),
+        Ports::All => None,
+    }
+}
+
 /// What the words after the program's name order. Before the first `--`, which is dropped, a word `--policy` takes the
 /// next word as its value, and `--policy=VALUE` is the same; the value is `seq`, `down` or `least`, and `seq` where none is given.
-/// The word `--clocks` there asks for the clocks, once or more often. `Words` comes exactly where the words are refused: where the
-/// policy is given twice or has another value, where another word before the first `--` begins with `-` and isn't `-` alone, or
-/// where one of the words that are left isn't NAME=VALUE or gives a NAME again. VALUE is an optional `-` and 1 to 18 decimal digits.
+/// So it is with `--ports`, whose value is `one` or `all`, and `one` where none is given. The word `--clocks` there asks for the
+/// clocks, once or more often. `Words` comes exactly where the words are refused: where the policy or the ports are given twice or
+/// have another value, where the ports are `all` and no clocks are asked for, where another word before the first `--` begins with
+/// `-` and isn't `-` alone, or where one of the words that are left isn't NAME=VALUE or gives a NAME again. VALUE is an optional `-`
+/// and 1 to 18 decimal digits.
 pub fn read_words(alloc: Global, words: &[String]) -> Result<Order, WordsError>
     ensures { ReadsOrder (order_of (map string_bytes words.now)) result }
 {
@@ -159,10 +232,16 @@ pub fn read_words(alloc: Global, words: &[String]) -> Result<Order, WordsError>
     let Some(policy) = policy_of(&split.policies) else {
         return Err(WordsError::Words);
     };
+    let Some(ports) = ports_of(&split.ports) else {
+        return Err(WordsError::Words);
+    };
+    let Some(task) = task_of(split.clocks, ports) else {
+        return Err(WordsError::Words);
+    };
     let params = params_of(alloc, &split.items)?;
     Ok(Order {
         policy,
-        clocks: split.clocks,
+        task,
         params,
     })
 }

@@ -12,11 +12,11 @@ returns-in_err-nest c =
     let stop = err_from_is_err_and c.from_residual.result c.from_residual.ensures.1 in
     rw (stop.1, stop.2)
     (without_nest
-    (λ answer. Prints (clocks_text c.args.policy) c.args.params.now c.args.bundle.now (as_reply answer))
+    (λ answer. Prints (clocks_text c.args.ports c.args.policy) c.args.params.now c.args.bundle.now (as_reply answer))
     c.args.params.now c.args.bundle.now c.parts_of-parts.result.source.now _ source_refused
     c.parts_of-parts.ensures.source c.in_err-nest.ensures)
 
 pub returns : goal.returns
 returns c =
-    prints_text (clocks_text c.args.policy) c.args.params.now c.args.bundle.now c.parts_of-parts.result.source.now _
+    prints_text (clocks_text c.args.ports c.args.policy) c.args.params.now c.args.bundle.now c.parts_of-parts.result.source.now _
     c.in_ok-nest.nest c.parts_of-parts.ensures.source c.in_ok-nest.ensures.0 (ap clocks_lines c.in_ok-told.ensures)

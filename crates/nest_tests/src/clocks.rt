@@ -1,4 +1,4 @@
-//! Tests of `clock_sim::simulate`.
+//! Tests of `clock_sim::simulate` and `port_sim::clock_count`.
 ghost use Rattle.std.specs.Prelude.{◌≡◌};
 ghost use Rattle.sanlp.specs.Points.{points_of};
 ghost use Rattle.net_core.specs.Machine.{net_of};
@@ -8,18 +8,21 @@ ghost use Rattle.net_core.specs.Sound.{IsSound};
 use crate::bound::{INCREMENT, Made, inputs, make};
 use clock_sim::{Clocked, simulate};
 use node_automata::automata;
+use port_sim::{clock_count, sound_networks_end};
 use sanlp::Inputs;
 use std::alloc::{AllocError, Global};
 use std::test::Fail;
 use witness_plan::Policy;
 
-/// How many values are incremented, the values of the arrays, what comes out, the number of clocks, and a policy.
+/// How many values are incremented, the values of the arrays, what comes out, the number of clocks, how many where each port goes at
+/// its own pace, and a policy.
 #[derive(Clone, Copy)]
 struct Increment {
     many: i64,
     inputs: &'static [&'static [i64]],
     outputs: &'static [i64],
     clocks: u64,
+    port_clocks: u64,
     policy: Policy,
 }
 
@@ -29,6 +32,7 @@ static INCREMENTS: [Increment; 6] = [
         inputs: &[&[], &[]],
         outputs: &[],
         clocks: 0,
+        port_clocks: 0,
         policy: Policy::Seq,
     },
     Increment {
@@ -36,6 +40,7 @@ static INCREMENTS: [Increment; 6] = [
         inputs: &[&[5], &[]],
         outputs: &[6],
         clocks: 7,
+        port_clocks: 7,
         policy: Policy::Seq,
     },
     // It has 21 events, up to three at a clock.
@@ -44,6 +49,8 @@ static INCREMENTS: [Increment; 6] = [
         inputs: &[&[5, 6, 7], &[]],
         outputs: &[6, 7, 8],
         clocks: 13,
+        // source F1 PF2 PF3 P4, assignment G3 FG4 PFG5 PF6 P7, sink G6 FG7 FG8 F9
+        port_clocks: 9,
         policy: Policy::Seq,
     },
     Increment {
@@ -51,6 +58,7 @@ static INCREMENTS: [Increment; 6] = [
         inputs: &[&[], &[]],
         outputs: &[],
         clocks: 0,
+        port_clocks: 0,
         policy: Policy::Down,
     },
     Increment {
@@ -58,6 +66,7 @@ static INCREMENTS: [Increment; 6] = [
         inputs: &[&[5], &[]],
         outputs: &[6],
         clocks: 7,
+        port_clocks: 7,
         policy: Policy::Down,
     },
     Increment {
@@ -65,6 +74,9 @@ static INCREMENTS: [Increment; 6] = [
         inputs: &[&[5, 6, 7], &[]],
         outputs: &[6, 7, 8],
         clocks: 13,
+        // With room for one token a channel carries one at every other clock:
+        // source F1 PF2 PF4 P6, assignment G3 F4 PG5 F6 PG7 F8 P9, sink G6 F7 G8 F9 G10 F11
+        port_clocks: 11,
         policy: Policy::Down,
     },
 ];
@@ -109,6 +121,15 @@ fn runs_by_the_clock(alloc: Global, made: &Made, wanted: &Increment) -> Result<b
     Ok(is_wanted(&clocked?, wanted))
 }
 
+// The number of clocks of a network whose ports go each at its own pace.
+fn counted(alloc: Global, made: &Made) -> Result<u64, AllocError>
+    requires numbers { FitsNumbers (net_of made.now.network) }
+    requires sound { IsSound made.now.nest made.now.network }
+{
+    sound_networks_end();
+    clock_count(alloc, &made.network)
+}
+
 #[test]
 fn all_processes_step_by_one_clock(rt: HostRuntime) -> Result<(), Fail> {
     for row in &INCREMENTS {
@@ -116,6 +137,17 @@ fn all_processes_step_by_one_clock(rt: HostRuntime) -> Result<(), Fail> {
         let is_right = runs_by_the_clock(rt.alloc(), &made, row);
         drop(made);
         assert!(rt; is_right?);
+    }
+    Ok(())
+}
+
+#[test]
+fn each_port_goes_at_its_own_pace(rt: HostRuntime) -> Result<(), Fail> {
+    for row in &INCREMENTS {
+        let made = make(rt.alloc(), INCREMENT, row.many, row.policy)?;
+        let clocks = counted(rt.alloc(), &made);
+        drop(made);
+        assert!(rt; clocks? == row.port_clocks);
     }
     Ok(())
 }

@@ -1,1 +1,3 @@
 mod Units
+mod Plain
+mod Items

@@ -7,5 +7,8 @@
 mod laws;
 mod text;
 
-pub use laws::{port_network_ports_differ, port_units_are_units, port_units_make_a_design};
+pub use laws::{
+    port_designs_run_by_clock, port_network_ports_differ, port_units_are_units,
+    port_units_make_a_design,
+};
 pub use text::write_port_rtl;

@@ -5,9 +5,11 @@ ghost use Rattle.rtl_answers.specs.Answering.{Answers, answer_text, as_reply};
 
 use crate::clocks::{Clocks, count_clocks, write_clocks};
 use crate::design::{Design, design_network};
+use crate::port_design::PortDesign;
 use command_answers::Stop;
 use io_edge::{Sink, WriteFault};
-use rtl_line::{Order, Task};
+use port_rtl::write_port_rtl;
+use rtl_line::Order;
 use rtl_text::write_rtl;
 use std::alloc::Global;
 
@@ -15,6 +17,7 @@ use std::alloc::Global;
 #[derive(Drop)]
 pub enum Answer {
     Design(Design),
+    PortDesign(PortDesign),
     Clocks(Clocks),
 }
 
@@ -23,9 +26,10 @@ pub(crate) fn answer_to(alloc: Global, order: &Order, bundle: &[u8]) -> Result<A
     requires { length bundle.now < 2 ^ 32 }
     ensures { Judges (λ answer. Answers order.now bundle.now (as_reply answer)) result }
 {
-    match order.task {
-        Task::Design => design_network(alloc, order.policy, &order.params, bundle),
-        Task::Clocks(ports) => count_clocks(alloc, ports, order.policy, &order.params, bundle),
+    if order.clocks {
+        count_clocks(alloc, order.ports, order.policy, &order.params, bundle)
+    } else {
+        design_network(alloc, order.ports, order.policy, &order.params, bundle)
     }
 }
 
@@ -35,6 +39,12 @@ pub(crate) fn write_answer<K: Sink>(answer: &Answer, sink: &mut K) -> Result<(),
 {
     match answer {
         Answer::Design(design) => write_rtl(
+            &design.nest,
+            &design.network,
+            design.units.as_slice(),
+            sink,
+        ),
+        Answer::PortDesign(design) => write_port_rtl(
             &design.nest,
             &design.network,
             design.units.as_slice(),

@@ -5,11 +5,13 @@ ghost use Rattle.sanlp.specs.Points.{points_of};
 ghost use Rattle.sanlp.specs.Size.{SizeIsOk};
 ghost use Rattle.rtl_text.specs.Designs.{AreUnitsOf};
 ghost use Rattle.command_answers.specs.Judging.{Judges};
+ghost use Rattle.rtl_line.specs.declared.words.Ports.TheVariants.{One};
 ghost use Rattle.rtl_answers.specs.Answering.{as_reply};
 ghost use Rattle.rtl_answers.specs.Designing.{Designs, HasDesign, unit_refusal};
 
 use crate::answer::Answer;
 use crate::networks::network_for;
+use crate::port_design::port_design_of;
 use bundle::parts_of;
 use command_answers::{Refusal, Stop, sized_nest};
 use loop_class::Params;
@@ -17,7 +19,7 @@ use loop_walk::points;
 use net_core::Network;
 use node_automata::automaton;
 use plain_data::Items;
-use rtl_line::Policy;
+use rtl_line::{Policy, Ports};
 use sanlp::{Nest, Points};
 use std::alloc::{AllocError, Global};
 use unit_text::{Unit, first_with_long_sequencer};
@@ -59,10 +61,10 @@ fn refusal_of(unit: &Unit) -> Refusal
     Refusal::Script(unit.auto.process, unit.longest_sequencer() as u64)
 }
 
-// The design of a nest's network, with the capacities that are wanted.
-fn design_of(alloc: Global, policy: Policy, nest: Nest) -> Result<Design, Stop>
+// The design of a nest's network, with the capacities that are wanted, and with one port of a process after the other.
+fn design_of(alloc: Global, policy: Policy, nest: Nest) -> Result<Answer, Stop>
     requires { SizeIsOk nest }
-    ensures { Judges (HasDesign policy nest) result }
+    ensures { Judges (λ answer. HasDesign One policy nest (as_reply answer)) result }
 {
     let points = points(alloc, &nest)?;
     let network = network_for(alloc, policy, &nest, &points)?;
@@ -70,29 +72,40 @@ fn design_of(alloc: Global, policy: Policy, nest: Nest) -> Result<Design, Stop>
     if let Some(unit) = first_with_long_sequencer(units.as_slice()) {
         return Err(Stop::Refused(refusal_of(unit)));
     }
-    Ok(Design {
+    Ok(Answer::Design(Design {
         nest,
         network,
         units,
-    })
+    }))
 }
 
-/// The design of the network of a bundle's source.
+// The design of a nest's network, with the capacities that are wanted, and with ports that take turns so.
+fn design_for(alloc: Global, ports: Ports, policy: Policy, nest: Nest) -> Result<Answer, Stop>
+    requires { SizeIsOk nest }
+    ensures { Judges (λ answer. HasDesign ports policy nest (as_reply answer)) result }
+{
+    match ports {
+        Ports::One => design_of(alloc, policy, nest),
+        Ports::All => port_design_of(alloc, policy, nest),
+    }
+}
+
+/// The design of the network of a bundle's source, with ports that take turns so.
 ///
 /// `Refusal::Script` comes where a sequencer of a process has more than 65,536 instructions, for the first such process: the number
 /// told is how many the longest of its sequencers has, and not that of its events.
 pub(crate) fn design_network(
     alloc: Global,
+    ports: Ports,
     policy: Policy,
     params: &Params,
     bundle: &[u8],
 ) -> Result<Answer, Stop>
     requires { length bundle.now < 2 ^ 32 }
     ensures { Judges
-        (λ answer. Designs policy params.now bundle.now (as_reply answer)) result }
+        (λ answer. Designs ports policy params.now bundle.now (as_reply answer)) result }
 {
     let parts = parts_of(bundle);
     let nest = sized_nest(alloc, parts.source, params)?;
-    let design = design_of(alloc, policy, nest)?;
-    Ok(Answer::Design(design))
+    design_for(alloc, ports, policy, nest)
 }

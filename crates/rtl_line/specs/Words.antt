@@ -14,8 +14,6 @@ use Rattle.rtl_line.specs.declared.words.Policy.TheVariants as policy
 use Rattle.rtl_line.specs.declared.words.Policy as any
 use Rattle.rtl_line.specs.declared.words.Ports.TheVariants.{One, All}
 use Rattle.rtl_line.specs.declared.words.Ports as turns
-use Rattle.rtl_line.specs.declared.words.Task.TheVariants as tasks
-use Rattle.rtl_line.specs.declared.words.Task.{Task}
 
 -- a word that begins with `-` and isn't `-` alone
 abbrev pub is_option : Text → Bool
@@ -130,22 +128,13 @@ ports_of [] = Some One
 ports_of (value ∷ []) = ports_named value
 ports_of (value ∷ other ∷ values) = None
 
--- What is to be written. No design is written whose ports go each at its own pace.
-abbrev pub task_of : Bool → turns.Ports → Option Task
-task_of true ports = Some (tasks.Clocks ports)
-task_of false One = Some tasks.Design
-task_of false All = None
-
-abbrev pub task_of_split : Split → Option Task
-task_of_split split = option_and_then (task_of split.clocks) (ports_of split.ports)
-
 abbrev pub order_of_split : Split → Option Order
 order_of_split split =
     option_and_then
     (λ wanted. option_and_then
-    (λ task. option_map
-    (λ params. record { policy = wanted; task = task; params = params })
-    (params_with [] split.items)) (task_of_split split)) (policy_of split.policies)
+    (λ ports. option_map
+    (λ params. record { policy = wanted; ports = ports; clocks = split.clocks; params = params })
+    (params_with [] split.items)) (ports_of split.ports)) (policy_of split.policies)
 
 -- what the words order, or None where they are refused
 abbrev pub order_of : List Text → Option Order

@@ -6,4 +6,4 @@
 
 mod words;
 
-pub use words::{Order, Policy, Ports, Task, read_words};
+pub use words::{Order, Policy, Ports, read_words};

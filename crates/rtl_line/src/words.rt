@@ -1,7 +1,7 @@
 ghost use Rattle.std.specs.Prelude.{◌≡◌, IfOk, OnOk, map, string_bytes};
 ghost use Rattle.std.specs.Option.{option_map};
 ghost use Rattle.rtl_line.specs.Splits.{found_in, rest_of};
-ghost use Rattle.rtl_line.specs.Words.{is_option as begins_as_option, ReadsOrder, kind_of, order_of, policy_named, policy_of, ports_named, ports_of, split_words, task_of};
+ghost use Rattle.rtl_line.specs.Words.{is_option as begins_as_option, ReadsOrder, kind_of, order_of, policy_named, policy_of, ports_named, ports_of, split_words};
 
 use command_line::{WordsError, params_of};
 use loop_bind::Params;
@@ -27,20 +27,13 @@ pub enum Ports {
     All,
 }
 
-/// What is to be written.
-#[derive(Clone, Copy, Debug, PartialEq, Eq)]
-pub enum Task {
-    /// The design.
-    Design,
-    /// The number of clocks in its place, where ports take turns so.
-    Clocks(Ports),
-}
-
-/// What the words order: the capacities that are wanted, what is to be written, and values for parameters.
+/// What the words order: the capacities that are wanted, how ports take turns, whether the clocks are to be told in place of the
+/// design, and values for parameters.
 #[derive(Drop)]
 pub struct Order {
     pub policy: Policy,
-    pub task: Task,
+    pub ports: Ports,
+    pub clocks: bool,
     pub params: Params,
 }
 
@@ -203,26 +196,12 @@ fn ports_of(values: &[&[u8]]) -> Option<Ports>
     }
 }
 
-// What is to be written. No design is written whose ports go each at its own pace.
-fn task_of(clocks: bool, ports: Ports) -> Option<Task>
-    ensures { result ≡ task_of clocks ports }
-{
-    if clocks {
-        return Some(Task::Clocks(ports));
-    }
-    match ports {
-        Ports::One => Some(Task::Design),
-        Ports::All => None,
-    }
-}
-
 /// What the words after the program's name order. Before the first `--`, which is dropped, a word `--policy` takes the
 /// next word as its value, and `--policy=VALUE` is the same; the value is `seq`, `down` or `least`, and `seq` where none is given.
 /// So it is with `--ports`, whose value is `one` or `all`, and `one` where none is given. The word `--clocks` there asks for the
 /// clocks, once or more often. `Words` comes exactly where the words are refused: where the policy or the ports are given twice or
-/// have another value, where the ports are `all` and no clocks are asked for, where another word before the first `--` begins with
-/// `-` and isn't `-` alone, or where one of the words that are left isn't NAME=VALUE or gives a NAME again. VALUE is an optional `-`
-/// and 1 to 18 decimal digits.
+/// have another value, where another word before the first `--` begins with `-` and isn't `-` alone, or where one of the words that are
+/// left isn't NAME=VALUE or gives a NAME again. VALUE is an optional `-` and 1 to 18 decimal digits.
 pub fn read_words(alloc: Global, words: &[String]) -> Result<Order, WordsError>
     ensures { ReadsOrder (order_of (map string_bytes words.now)) result }
 {
@@ -235,13 +214,11 @@ pub fn read_words(alloc: Global, words: &[String]) -> Result<Order, WordsError>
     let Some(ports) = ports_of(&split.ports) else {
         return Err(WordsError::Words);
     };
-    let Some(task) = task_of(split.clocks, ports) else {
-        return Err(WordsError::Words);
-    };
     let params = params_of(alloc, &split.items)?;
     Ok(Order {
         policy,
-        task,
+        ports,
+        clocks: split.clocks,
         params,
     })
 }

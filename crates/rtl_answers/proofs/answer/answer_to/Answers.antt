@@ -1,17 +1,15 @@
-use Rattle.std.proofs.Common.{◌≡◌}
-use Rattle.rtl_line.specs.declared.words.Task.TheVariants.{Design, Clocks}
+use Rattle.std.proofs.Common.{true, false}
 use Rattle.rtl_answers.proofs.Designs.{judged_with}
 use Rattle.rtl_answers.proofs.answer.answer_to.Goals as goal
 
-pub returns-in-Design : goal.returns-in-Design
-returns-in-Design c =
-    judged_with Design c.args.order.now.task c.args.order.now.policy c.args.order.now.params c.args.bundle.now
-    c.design_network.result c.in-Design.is c.design_network.ensures
+pub returns-then-order : goal.returns-then-order
+returns-then-order c =
+    let order = c.args.order.now in
+    judged_with true order.clocks order.ports order.policy order.params c.args.bundle.now c.count_clocks.result
+    c.if-order.true c.count_clocks.ensures
 
-pub returns-in-Clocks : goal.returns-in-Clocks
-returns-in-Clocks c =
-    let told = c.in-Clocks.is in
-    let same = c.in-Clocks.ports-1-is in
-    let is : c.args.order.now.task ≡ Clocks c.in-Clocks.ports = cc in
-    judged_with (Clocks c.in-Clocks.ports) c.args.order.now.task c.args.order.now.policy c.args.order.now.params
-    c.args.bundle.now c.count_clocks.result is c.count_clocks.ensures
+pub returns-else-order : goal.returns-else-order
+returns-else-order c =
+    let order = c.args.order.now in
+    judged_with false order.clocks order.ports order.policy order.params c.args.bundle.now c.design_network.result
+    c.if-order.false c.design_network.ensures

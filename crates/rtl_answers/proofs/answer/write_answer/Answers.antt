@@ -9,3 +9,13 @@ returns-in-Design g c =
       front = rw c.as_slice.ensures at c.write_rtl.ensures.front;
       cause = c.write_rtl.ensures.cause;
     })
+
+pub returns-in-PortDesign : goal.returns-in-PortDesign
+returns-in-PortDesign g c =
+    rw c.in-PortDesign.is
+    (record {
+      ok = rw c.as_slice-in-PortDesign.ensures at c.write_port_rtl.ensures.text;
+      quiet = c.write_port_rtl.ensures.quiet;
+      front = rw c.as_slice-in-PortDesign.ensures at c.write_port_rtl.ensures.front;
+      cause = c.write_port_rtl.ensures.cause;
+    })

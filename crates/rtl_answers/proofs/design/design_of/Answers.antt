@@ -1,6 +1,7 @@
 use Rattle.std.proofs.Common.{◌∙◌, refl, sym, ap, subst}
 use Rattle.std.specs.Option.{option_copied}
 use Rattle.rtl_text.specs.Designs.{AreUnitsOf}
+use Rattle.rtl_text.specs.Networks.{rtl_text}
 use Rattle.unit_text.specs.Limits.{first_with_long_sequencer}
 use Rattle.rtl_answers.proofs.design.design_of.Goals as goal
 
@@ -16,11 +17,19 @@ returns-in-Some c =
     )
 
 pub returns : goal.returns
-returns c = (
-  refl,
-  c.in_ok-network.ensures.network,
-  subst (λ network. AreUnitsOf c.args.nest network c.in_ok-units.units) c.in_ok-network.ensures.network
-      c.in_ok-units.ensures,
-  ap first_with_long_sequencer (sym c.as_slice.ensures) ∙ sym c.first_with_long_sequencer.ensures
-      ∙ ap option_copied c.in_default.is,
-)
+returns c =
+    let nest = c.args.nest in
+    let units = c.in_ok-units.units in
+    let same = c.in_ok-network.ensures.network in (
+      rtl_text nest c.in_ok-network.network units,
+      refl,
+      (
+        record {
+          units = units;
+          are_units = subst (λ network. AreUnitsOf nest network units) same c.in_ok-units.ensures;
+          text_is = ap (λ network. rtl_text nest network units) same;
+        },
+        ap first_with_long_sequencer (sym c.as_slice.ensures) ∙ sym c.first_with_long_sequencer.ensures
+            ∙ ap option_copied c.in_default.is,
+      ),
+    )

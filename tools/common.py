@@ -18,6 +18,8 @@ from front_door.proved import built_by_rt
 TOP = Path(__file__).resolve().parents[1]
 EXAMPLES = TOP / "examples"
 POLICIES = ("seq", "down")
+# How a process of a design goes: all its ports by one control, or each by its own.
+PORTS = ("one", "all")
 USAGE = "usage: compaan COMMAND [--policy seq|down] [NAME=VALUE]...\n"
 # The status of a script that can't begin, since something that it wants isn't here. One that finds a difference ends with 1.
 CANT_BEGIN = 2

@@ -242,11 +242,14 @@ def faults() -> Iterator[Fault]:
         ):
             for what, change in design_faults(tight, *turn):
                 yield Fault(check, words, f"rtl: {what}", change, RTL)
+        owing = spoiled(None, rb"_owing <= '1'", b"_owing <= '0'")
+        yield Fault("../hardware/frames", ["--ports", "all", *jacobi_kernel], "rtl: a value that isn't owed", owing, RTL)
         told_otherwise = spoiled(None, rb"^clocks \d", b"clocks 9")
         for check, words in (
             ("hardware/designs.py", ["--std", "93", *jacobi]),
             ("hardware/large.py", ["--quick", "sobel"]),
             ("../hardware/frames", jacobi_kernel),
+            ("../hardware/frames", ["--ports", "all", *jacobi_kernel]),
         ):
             yield Fault(check, words, "rtl: another number of clocks", told_otherwise, RTL)
     else:

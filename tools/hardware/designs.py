@@ -1,9 +1,10 @@
 #!/usr/bin/env python3
 """Simulates the designs that `compaan rtl` writes of the examples with GHDL, frame after frame, with stalls at all ports and without, and
-compares each array with what `compaan seq` computes, and the clocks of one frame with those that `compaan sim` counts.
+compares each array with what `compaan seq` computes, and the clocks of one frame with those that `compaan sim` counts, or with
+`--ports all` those that `compaan rtl --ports all --clocks` tells.
 
-usage: tools/hardware/designs.py [--compaan PROGRAM] [--rtl PROGRAM] [--ghdl PROGRAM] [--policy seq|down] [--frames NUMBER]
-                                 [--std 93|02|08] [EXAMPLE]..
+usage: tools/hardware/designs.py [--compaan PROGRAM] [--rtl PROGRAM] [--ghdl PROGRAM] [--policy seq|down] [--ports one|all]
+                                 [--frames NUMBER] [--std 93|02|08] [EXAMPLE]..
 
 Each design is simulated under --std=93, 02 and 08, for each policy: one frame, and then NUMBER of them (3) as hardware/frames gives
 them. An EXAMPLE is a name in examples/, or the path of a source NAME.loop with its files NAME.items and NAME.data beside it; with none,
@@ -68,6 +69,7 @@ def main() -> int:
     parser.add_argument("--policy", choices=POLICIES, help="the schedule that the capacities are for (both)")
     parser.add_argument("--frames", metavar="NUMBER", type=int, default=3, help="how many frames are simulated without a reset (3)")
     parser.add_argument("--std", choices=harness.STANDARDS, help="the standard of VHDL (all)")
+    harness.ports_word(parser)
     parser.add_argument("names", metavar="EXAMPLE", nargs="*")
     given = parser.parse_args()
     ghdl, version = harness.find_ghdl(given.ghdl)
@@ -82,7 +84,7 @@ def main() -> int:
             sizes: list[object] = ["-"] * 4
             clocks: list[object] = ["-"] * 3
             try:
-                frames = frames_of(program, rtl, policy, example, given.frames)
+                frames = frames_of(program, rtl, policy, example, given.frames, given.ports)
                 bits = old_bits(program, policy, example), table_bits(frames.design)
                 sizes = [frames.events, sum(instructions_of(frames.design)), *bits]
                 clocks, outcome = outcome_of(ghdl, frames, standards)

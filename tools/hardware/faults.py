@@ -5,7 +5,7 @@ one at a time, and wants each to be told.
 usage: tools/hardware/faults.py [--compaan PROGRAM] [--rtl PROGRAM] [--ghdl PROGRAM] [--text vhdl|rtl]
 
 The faults are planted in the answers that are wanted, in the capacities of channels, in the channel and in the nodes, and in whole
-designs; with --text in those of `compaan vhdl` alone, or in designs alone. Prints a table, and ends with 0 where each was told as it was to
+designs, also in those whose ports go each at its own pace; with --text in those of `compaan vhdl` alone, or in designs alone. Prints a table, and ends with 0 where each was told as it was to
 be, 1 where one wasn't, and 2 where it can't begin, as without GHDL.
 """
 from __future__ import annotations
@@ -17,7 +17,7 @@ from pathlib import Path
 from typing import NamedTuple
 
 sys.path.insert(0, str(Path(__file__).resolve().parents[1]))
-from common import examples, head, program_of, row, rtl_program_of, stop
+from common import PORTS, examples, head, program_of, row, rtl_program_of, stop
 from hardware import harness, netlists
 from hardware.frames import Frames, Run, files_of, frames_of, judged
 from hardware.harness import Outcome
@@ -170,6 +170,72 @@ DESIGN_EDITS: list[tuple[str, str, str, Run, str, str, str, str]] = [
 ]
 
 
+RESET = "get0_waits <= '0';\n        get1_waits <= '{}';"
+OP_PUT, DST_GET = "op_put1 : codes(0 to 6) := (0 => ", "dst_get3 : codes(0 to 9) := (0 => "
+# The same of designs whose ports go each at its own pace.
+PORT_EDITS: list[tuple[str, str, str, Run, str, str, str, str]] = [
+    ("a Get port has an item less", "fir", "seq", ONE, ARCHITECTURE.format("get_4_4"), "0 => 8", "0 => 7", "stuck"),
+    ("a Put port has an item less", "fir", "seq", ONE, ARCHITECTURE.format("put_2_0"), "0 => 8", "0 => 7", "stuck"),
+    ("a process has a fire less", "fir", "seq", ONE, ARCHITECTURE.format("fire_2"), "0 => 8", "0 => 7", "stuck"),
+    ("a port puts once more", "fir", "seq", ONE, ARCHITECTURE.format("node_3"), OP_PUT + "2", OP_PUT + "3", "stuck"),
+    (
+        "an operand is overwritten",
+        "fir",
+        "seq",
+        ONE,
+        ARCHITECTURE.format("node_3"),
+        "get2_waits = '0' or",
+        "c2_valid = '1' or",
+        "not equal",
+    ),
+    (
+        "a process doesn't wait for an operand",
+        "fir",
+        "seq",
+        ONE,
+        ARCHITECTURE.format("node_3"),
+        "    and get1_waits = '1'\n",
+        "",
+        "not equal",
+    ),
+    ("a fire overwrites what is owed", "fir", "down", ONE, ARCHITECTURE.format("node_0"), "put3_clear = '1' and (put", "(put", "not equal"),
+    (
+        "a port takes where there is nothing",
+        "fir",
+        "seq",
+        ONE,
+        ARCHITECTURE.format("node_4"),
+        " /= 4 and c4_valid = '1'",
+        " /= 4",
+        "not equal",
+    ),
+    ("a port gets into another slot", "fir", "seq", ONE, ARCHITECTURE.format("node_3"), DST_GET + "5", DST_GET + "6", "different"),
+    ("a port doesn't begin behind a fire", "fir", "seq", ONE, ARCHITECTURE.format("node_3"), RESET.format(1), RESET.format(0), "not equal"),
+    ("a port doesn't begin anew", "running_sum", "seq", THREE, ARCHITECTURE.format("node_1"), "again => again", "again => '0'", "stuck"),
+    ("a source doesn't wait", "fir", "seq", STALLS, ARCHITECTURE.format("node_0"), " and given_valid", "", "not equal"),
+    (
+        "a sink doesn't wait",
+        "transpose",
+        "seq",
+        STALLS,
+        ARCHITECTURE.format("node_2"),
+        " and (gave = '0' or result_ready = '1')",
+        "",
+        "not equal",
+    ),
+    (
+        "a port waits for a clock",
+        "fir",
+        "down",
+        ONE,
+        ARCHITECTURE.format("node_3"),
+        "_waits = '0' or fires = '1'",
+        "_waits = '0'",
+        "not the told clocks",
+    ),
+]
+
+
 def in_a_run(frames: Frames, run: Run) -> Callable[[str], Outcome]:
     """A run of a design."""
     return lambda ghdl: judged(frames, run, harness.simulate(ghdl, files_of(frames, run), STANDARD))
@@ -183,10 +249,10 @@ def edited(design: str, behind: str, old: str, new: str) -> str:
     return front + line + back.replace(old, new, 1)
 
 
-def in_designs(program: str, rtl: str) -> Iterator[Planted]:
+def in_designs(program: str, rtl: str, ports: str) -> Iterator[Planted]:
     """Another text of a whole design."""
-    for fault, name, policy, run, behind, old, new, wanted in DESIGN_EDITS:
-        frames = frames_of(program, rtl, policy, examples([name])[0], run.frames)
+    for fault, name, policy, run, behind, old, new, wanted in PORT_EDITS if ports == "all" else DESIGN_EDITS:
+        frames = frames_of(program, rtl, policy, examples([name])[0], run.frames, ports)
         changed = frames._replace(design=edited(frames.design, behind, old, new))
         yield Planted(f"{fault}; {run}", name, wanted, in_a_run(changed, run))
 
@@ -230,7 +296,8 @@ def main() -> int:
             plantings += [in_answers(program), in_capacities(program), in_texts(program)]
         if given.text != "vhdl":
             rtl = rtl_program_of(given.rtl)
-            plantings += [in_designs(program, rtl), in_answers_of_frames(program, rtl), in_netlists(program, rtl, version)]
+            plantings += [in_designs(program, rtl, it) for it in PORTS]
+            plantings += [in_answers_of_frames(program, rtl), in_netlists(program, rtl, version)]
         for it in chain.from_iterable(plantings):
             outcome = it.outcome(ghdl)
             is_told = outcome.verdict != "equal" if it.wanted == "not equal" else outcome.verdict == it.wanted

@@ -24,11 +24,12 @@ class Stream(NamedTuple):
 
 class Frames(NamedTuple):
     """A design with the data and the answer of some frames: its text, how many events its network has in a frame, the clocks of one that
-    `compaan sim` counts and those that `compaan rtl --clocks` tells, and the frames."""
+    `compaan sim` counts and those that `compaan rtl --clocks` tells, and the frames. Where each port has a control of its own `compaan sim`
+    counts none."""
 
     design: str
     events: int
-    clocks: int
+    clocks: int | None
     told: int
     frames: Sequence[tuple[Arrays, Arrays]]
 
@@ -279,12 +280,12 @@ def data_text(arrays: Arrays) -> bytes:
     return "".join(",".join([name, *map(str, values)]) + "\n" for name, values in arrays).encode("latin-1")
 
 
-def frames_of(program: str, rtl: str, policy: str, kernel: Example, number: int) -> Frames:
+def frames_of(program: str, rtl: str, policy: str, kernel: Example, number: int, ports: str = "one") -> Frames:
     """The design of a source, and so many frames: the first has its data, and each behind it the same values, moved on by one place in each
     array. The answers are those of `compaan seq`."""
-    planned = ["--policy", policy, *kernel.items]
+    planned = harness.planned_words(policy, ports, kernel)
     design = harness.written(rtl, planned, kernel.source)
-    events = read_net(harness.written(program, ["net", *planned], kernel.source)).events
+    events = read_net(harness.text_of(program, "net", policy, kernel)).events
     data = read_arrays(kernel.data.decode("latin-1"))
     frames = []
     for at in range(max(number, 1)):
@@ -292,7 +293,8 @@ def frames_of(program: str, rtl: str, policy: str, kernel: Example, number: int)
         answer = harness.written(program, ["seq", *kernel.items], bundled(kernel.source, data_text(frame)))
         frames.append((frame, read_arrays(answer)))
     told = harness.clocks_told(harness.written(rtl, [*planned, "--clocks"], kernel.source), f"{Path(rtl).name} --clocks")
-    return Frames(design, events, harness.clocks_of(program, policy, kernel), told, frames)
+    clocks = None if ports == "all" else harness.clocks_of(program, policy, kernel)
+    return Frames(design, events, clocks, told, frames)
 
 
 def runs_of(frames: Frames) -> list[Run]:
@@ -317,7 +319,7 @@ def judged(frames: Frames, run: Run, outcome: Outcome) -> Outcome:
     tells."""
     if run != Run(1, False) or outcome.verdict != "equal":
         return outcome
-    if outcome.clocks != frames.clocks:
+    if frames.clocks is not None and outcome.clocks != frames.clocks:
         return Outcome("not sim's clocks", outcome.clocks, [f"compaan sim counts {frames.clocks} clocks"])
     if outcome.clocks != frames.told:
         return Outcome("not the told clocks", outcome.clocks, [f"compaan rtl --clocks tells {frames.told} clocks"])

@@ -14,7 +14,7 @@ from dataclasses import dataclass
 from pathlib import Path
 from typing import NamedTuple
 
-from common import TOP, Example, parser_of, run, stop
+from common import PORTS, TOP, Example, parser_of, run, stop
 from hardware.wiring import Network, Node, TooLong, Unfit, bench_text, read_arrays, read_file, read_texts, wiring_text, write_file
 
 CHANNEL = TOP / "hardware" / "channel.vhd"
@@ -77,6 +77,16 @@ def design_parser(text: str | None) -> argparse.ArgumentParser:
     parser = hardware_parser(text)
     parser.add_argument("--rtl", metavar="PROGRAM", help=RTL_HELP)
     return parser
+
+
+def ports_word(parser: argparse.ArgumentParser) -> None:
+    """The word of a command that says how the processes of a design go."""
+    parser.add_argument("--ports", choices=PORTS, default="one", help="one control for all ports of a process, or one for each (one)")
+
+
+def planned_words(policy: str, ports: str, kernel: Example) -> list[str]:
+    """The words of the program that writes designs, for a kernel."""
+    return ["--policy", policy, *([] if ports == "one" else ["--ports", ports]), *kernel.items]
 
 
 def kernel_words(parser: argparse.ArgumentParser) -> None:

@@ -2,12 +2,12 @@
 """Simulates designs of kernels at sizes that matter with GHDL: a filter of 4,096 samples, a convolution and the Sobel filter of an image of
 320 by 240, and a product of matrices of 32 by 32.
 
-usage: tools/hardware/large.py [--compaan PROGRAM] [--rtl PROGRAM] [--ghdl PROGRAM] [--policy seq|down] [--frames NUMBER]
-                               [--std 93|02|08] [--netlist [--yosys PROGRAM]] [--quick] [KERNEL]..
+usage: tools/hardware/large.py [--compaan PROGRAM] [--rtl PROGRAM] [--ghdl PROGRAM] [--policy seq|down] [--ports one|all]
+                               [--frames NUMBER] [--std 93|02|08] [--netlist [--yosys PROGRAM]] [--quick] [KERNEL]..
                                (KERNEL: fir, convolution, sobel, matrix_product)
 
 Each design is run as hardware/frames does: one frame, then NUMBER of them (2) with stalls at all ports, and then without. The arrays must
-be those of `compaan seq`, and the clocks of one frame those of `compaan sim`. The data is made here, always the same. With --netlist
+be those of `compaan seq`, and the clocks of one frame those of `compaan sim`, or of `compaan rtl --ports all --clocks`. The data is made here, always the same. With --netlist
 GHDL synthesizes the design, and the netlist is run as a program that yosys writes in C++, which is many times as fast. With --quick the
 sizes are small. Prints a table, which takes an hour or more without --netlist, and ends with 0 where all is as wanted, 1 where something
 isn't, and 2 where it can't begin, as without GHDL.
@@ -93,8 +93,8 @@ def row_of(words: argparse.Namespace, ghdl: str, program: str, rtl: str, kernel:
     clocks: list[object] = []
     worst = Outcome("equal", None, [])
     try:
-        frames = frames_of(program, rtl, policy, kernel, words.frames)
-        sizes = [frames.events, sum(instructions_of(frames.design)), table_bits(frames.design), frames.clocks]
+        frames = frames_of(program, rtl, policy, kernel, words.frames, words.ports)
+        sizes = [frames.events, sum(instructions_of(frames.design)), table_bits(frames.design), frames.told]
         for run, outcome in runs(words, ghdl, frames):
             clocks.append("-" if outcome.clocks is None else outcome.clocks)
             print(f"{kernel.name}, {run}: {outcome.verdict}, after {time.monotonic() - begun:.0f} s", file=sys.stderr, flush=True)
@@ -116,6 +116,7 @@ def main() -> int:
     parser.add_argument("--netlist", action="store_true", help="runs what GHDL synthesizes, which yosys writes in C++")
     parser.add_argument("--yosys", metavar="PROGRAM", default="yosys", help="what reads the netlist (yosys)")
     parser.add_argument("--quick", action="store_true", help="at small sizes")
+    harness.ports_word(parser)
     parser.add_argument("names", metavar="KERNEL", nargs="*")
     given = parser.parse_args()
     ghdl, version = harness.find_ghdl(given.ghdl)

@@ -18,7 +18,7 @@ STANDARD = "08"
 READ = "read_verilog netlist.v; hierarchy -check -top network; proc; opt_clean; check -assert"
 COUNT = "tee -q -o counts.json stat -json -width -top network"
 # An entity of a process: the node itself, and in a design its sequencers.
-OF_PROCESS = re.compile(r"(?:node|control)_(\d+)|loop_(\d+)_\d+")
+OF_PROCESS = re.compile(r"(?:node|control|fire)_(\d+)|(?:loop|get|put)_(\d+)_\d+")
 
 
 class Counts(NamedTuple):
@@ -213,11 +213,17 @@ def total(counts: Iterable[Counts]) -> Counts:
 
 
 def instructions_of(design: str) -> list[int]:
-    """The instructions of each process's control in the text of a design."""
-    told = re.findall(r"(?m)^architecture rtl of control_(\d+) is\n(?:.*\n)*?  signal pc : integer range 0 to (\d+) := 0;$", design)
-    if [int(number) for number, _ in told] != list(range(len(told))):
-        raise Unfit("the design doesn't have a control for each process in order")
-    return [int(count) for _, count in told]
+    """The instructions of each process's control in the text of a design, or of its fires and its ports together."""
+    name = r"(control|fire|get|put)_(\d+)(?:_\d+)?"
+    told = re.findall(rf"(?m)^architecture rtl of {name} is\n(?:.*\n)*?  signal pc : integer range 0 to (\d+) := 0;$", design)
+    counts: list[int] = []
+    for kind, number, count in told:
+        if kind in ("control", "fire"):
+            counts.append(0)
+        if int(number) != len(counts) - 1:
+            raise Unfit("the design doesn't have a control for each process in order")
+        counts[-1] += int(count)
+    return counts
 
 
 # A table of numbers or words: its name, its kind, its last place and its entries.

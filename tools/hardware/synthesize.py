@@ -3,10 +3,10 @@
 design of `compaan rtl`.
 
 usage: tools/hardware/synthesize.py [--compaan PROGRAM] [--rtl PROGRAM] [--ghdl PROGRAM] [--yosys PROGRAM] [--policy seq|down]
-                                    [--text vhdl|rtl] [--seconds NUMBER] [--counts] [--parts] [EXAMPLE]..
+                                    [--ports one|all] [--text vhdl|rtl] [--seconds NUMBER] [--counts] [--parts] [EXAMPLE]..
 
 GHDL synthesizes each network, and what comes of it is simulated in the network's place: it must give the same arrays in as many clocks,
-those of `compaan sim`; of a design so also two frames with stalls at all ports. Where there is yosys, it reads what GHDL made, checks it
+those of `compaan sim`, or of a design with `--ports all` those that `compaan rtl --ports all --clocks` tells; of a design so also two frames with stalls at all ports. Where there is yosys, it reads what GHDL made, checks it
 and counts what is in it; --parts tells so of each process. With --counts nothing is simulated. A tool that takes more than NUMBER seconds
 (600) is ended, and nothing is told of that text. An EXAMPLE is as for tools/hardware/simulate.py. Prints a table, and ends with 0 where
 all is well, 1 where something isn't, and 2 where it can't begin, as without GHDL.
@@ -36,10 +36,12 @@ PARTS_HEAD = ["Process", *(title for what in PARTS for title in (f"{what}, `vhdl
 
 
 class Text(NamedTuple):
-    """A network in one of the texts: its files with each test bench, and the steps of each process: events, or instructions."""
+    """A network in one of the texts: its files with each test bench, the steps of each process: events, or instructions, and the clocks of
+    the first run, where there is one."""
 
     runs: Sequence[dict[str, str]]
     steps: Sequence[int]
+    clocks: int = 0
 
 
 class Made(NamedTuple):
@@ -65,7 +67,8 @@ class Made(NamedTuple):
 
 
 class Tools(NamedTuple):
-    """The programs, the seconds that one of them may take, and whether what is synthesized is simulated too."""
+    """The programs, the seconds that one of them may take, whether what is synthesized is simulated too, and how processes of a design
+    go."""
 
     program: str
     rtl: str
@@ -73,6 +76,7 @@ class Tools(NamedTuple):
     yosys: str | None
     seconds: float
     simulates: bool
+    ports: str
 
 
 def processes_of(tools: Tools, policy: str, example: Example) -> list[Process]:
@@ -81,12 +85,13 @@ def processes_of(tools: Tools, policy: str, example: Example) -> list[Process]:
 
 def old_text(tools: Tools, policy: str, example: Example, answer: str) -> Text:
     design = harness.design_of(tools.program, policy, example, answer)
-    return Text([design.files], [node.events for node in design.nodes])
+    return Text([design.files], [node.events for node in design.nodes], harness.clocks_of(tools.program, policy, example))
 
 
 def new_text(tools: Tools, policy: str, example: Example, _: str) -> Text:
-    frames = frames_of(tools.program, tools.rtl, policy, example, 2)
-    return Text([files_of(frames, run) for run in (Run(1, False), Run(2, True))], netlists.instructions_of(frames.design))
+    frames = frames_of(tools.program, tools.rtl, policy, example, 2, tools.ports)
+    runs = [files_of(frames, run) for run in (Run(1, False), Run(2, True))]
+    return Text(runs, netlists.instructions_of(frames.design), frames.told)
 
 
 def text_alone(tools: Tools, text: str, policy: str, example: Example) -> Text:
@@ -94,7 +99,7 @@ def text_alone(tools: Tools, text: str, policy: str, example: Example) -> Text:
     if text == "vhdl":
         _, nodes, files = harness.wired(tools.program, policy, example)
         return Text([files], [node.events for node in nodes])
-    design = harness.written(tools.rtl, ["--policy", policy, *example.items], example.source)
+    design = harness.written(tools.rtl, harness.planned_words(policy, tools.ports, example), example.source)
     return Text([{"design.vhd": design}], netlists.instructions_of(design))
 
 
@@ -111,7 +116,7 @@ def made_of(tools: Tools, text: str, policy: str, example: Example, answer: str)
         outcome = Outcome(NOT_SIMULATED, None, [])
         if simulates:
             outcome = netlists.resimulated(tools.ghdl, written.runs, tools.seconds)
-            outcome = compare_clocks(outcome, harness.clocks_of(tools.program, policy, example))
+            outcome = compare_clocks(outcome, written.clocks)
         if tools.yosys is None or outcome.verdict not in ("equal", NOT_SIMULATED):
             return Made(outcome, steps)
         counts, judges = netlists.counted(tools.ghdl, tools.yosys, written.runs[0], tools.seconds)
@@ -157,6 +162,7 @@ def tools_parser(text: str | None) -> harness.argparse.ArgumentParser:
     parser = harness.design_parser(text)
     parser.add_argument("--yosys", metavar="PROGRAM", default="yosys", help="what counts (yosys, where there is one)")
     parser.add_argument("--policy", choices=POLICIES, default="seq", help="the schedule that the capacities are for (seq)")
+    harness.ports_word(parser)
     parser.add_argument("--text", choices=TEXTS, help="the text that is synthesized (both)")
     parser.add_argument("--seconds", metavar="NUMBER", type=float, default=600, help="how long a tool may take (600)")
     parser.add_argument("--counts", action="store_true", help="nothing is simulated")
@@ -171,7 +177,7 @@ def tools_of(words: harness.argparse.Namespace) -> tuple[Tools, str]:
         version += f", and {netlists.version_of(yosys)}"
     else:
         print(f"There is no yosys here (no program {words.yosys}), so nothing is counted.\n")
-    return Tools(program_of(words.compaan), rtl_program_of(words.rtl), ghdl, yosys, words.seconds, not words.counts), version
+    return Tools(program_of(words.compaan), rtl_program_of(words.rtl), ghdl, yosys, words.seconds, not words.counts, words.ports), version
 
 
 def main() -> int:

@@ -21,7 +21,7 @@ OPTIONS = {
 DESIGNING = {
     "--policy least": "capacities below those of down, none of which can be lowered",
     CLOCKS: "writes the number of clocks in place of the design, and beside least capacities that with those of down",
-    f"{PORTS} all": "with --clocks: that number where each end of a channel at a process goes at its own pace; one is the default",
+    f"{PORTS} all": "each end of a channel at a process goes at its own pace; one is the default: one after the other",
 }
 
 BUILDING = {

@@ -22,7 +22,7 @@ def wrong_word(passed: list[str], is_rtl: bool) -> str | None:
     cut = passed.index("--") if "--" in passed else len(passed)
     words = list(passed)
     kept: list[str] = []
-    given: dict[str, str] = {}
+    given: set[str] = set()
     values = {"--policy": ("seq", "down", "least") if is_rtl else ("seq", "down")} | ({PORTS: ("one", "all")} if is_rtl else {})
     at = 0
     while at < len(words):
@@ -38,16 +38,14 @@ def wrong_word(passed: list[str], is_rtl: bool) -> str | None:
                 return f"{option} is {', '.join(values[option][:-1])} or {values[option][-1]}, and not {value!r}"
             if option in given:
                 return f"{option} stands twice"
-            given[option] = value
+            given.add(option)
         elif is_rtl and word == CLOCKS:
-            given[CLOCKS] = word
+            pass
         elif is_option(word):
             return f"there is no option {word}"
         else:
             kept.append(word)
         at += 1
-    if given.get(PORTS) == "all" and CLOCKS not in given:
-        return f"{PORTS} all is taken beside {CLOCKS} alone"
     if not kept:
         return "there is no command"
     command, *rest = kept

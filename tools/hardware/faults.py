@@ -5,8 +5,8 @@ one at a time, and wants each to be told.
 usage: tools/hardware/faults.py [--compaan PROGRAM] [--rtl PROGRAM] [--ghdl PROGRAM] [--text vhdl|rtl]
 
 The faults are planted in the answers that are wanted, in the capacities of channels, in the channel and in the nodes, and in whole
-designs, also in those whose ports go each at its own pace; with --text in those of `compaan vhdl` alone, or in designs alone. Prints a table, and ends with 0 where each was told as it was to
-be, 1 where one wasn't, and 2 where it can't begin, as without GHDL.
+designs, also in those whose ports go each at its own pace; with --text in those of `compaan vhdl` alone, or in designs alone. Prints a
+table, and ends with 0 where each was told as it was to be, 1 where one wasn't, and 2 where it can't begin, as without GHDL.
 """
 from __future__ import annotations
 

@@ -7,10 +7,10 @@ usage: tools/hardware/large.py [--compaan PROGRAM] [--rtl PROGRAM] [--ghdl PROGR
                                (KERNEL: fir, convolution, sobel, matrix_product)
 
 Each design is run as hardware/frames does: one frame, then NUMBER of them (2) with stalls at all ports, and then without. The arrays must
-be those of `compaan seq`, and the clocks of one frame those of `compaan sim`, or of `compaan rtl --ports all --clocks`. The data is made here, always the same. With --netlist
-GHDL synthesizes the design, and the netlist is run as a program that yosys writes in C++, which is many times as fast. With --quick the
-sizes are small. Prints a table, which takes an hour or more without --netlist, and ends with 0 where all is as wanted, 1 where something
-isn't, and 2 where it can't begin, as without GHDL.
+be those of `compaan seq`, and the clocks of one frame those of `compaan sim`, or of `compaan rtl --ports all --clocks`. The data is made
+here, always the same. With --netlist GHDL synthesizes the design, and the netlist is run as a program that yosys writes in C++, which is
+many times as fast. With --quick the sizes are small. Prints a table, which takes an hour or more without --netlist, and ends with 0 where
+all is as wanted, 1 where something isn't, and 2 where it can't begin, as without GHDL.
 """
 from __future__ import annotations
 

@@ -6,10 +6,11 @@ usage: tools/hardware/synthesize.py [--compaan PROGRAM] [--rtl PROGRAM] [--ghdl 
                                     [--ports one|all] [--text vhdl|rtl] [--seconds NUMBER] [--counts] [--parts] [EXAMPLE]..
 
 GHDL synthesizes each network, and what comes of it is simulated in the network's place: it must give the same arrays in as many clocks,
-those of `compaan sim`, or of a design with `--ports all` those that `compaan rtl --ports all --clocks` tells; of a design so also two frames with stalls at all ports. Where there is yosys, it reads what GHDL made, checks it
-and counts what is in it; --parts tells so of each process. With --counts nothing is simulated. A tool that takes more than NUMBER seconds
-(600) is ended, and nothing is told of that text. An EXAMPLE is as for tools/hardware/simulate.py. Prints a table, and ends with 0 where
-all is well, 1 where something isn't, and 2 where it can't begin, as without GHDL.
+those of `compaan sim`, or of a design with `--ports all` those that `compaan rtl --ports all --clocks` tells; of a design so also two
+frames with stalls at all ports. Where there is yosys, it reads what GHDL made, checks it and counts what is in it; --parts tells so of
+each process. With --counts nothing is simulated. A tool that takes more than NUMBER seconds (600) is ended, and nothing is told of that
+text. An EXAMPLE is as for tools/hardware/simulate.py. Prints a table, and ends with 0 where all is well, 1 where something isn't, and 2
+where it can't begin, as without GHDL.
 """
 from __future__ import annotations
 

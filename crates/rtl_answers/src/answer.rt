@@ -5,7 +5,7 @@ ghost use Rattle.rtl_answers.specs.Answering.{Answers, answer_text, as_reply};
 
 use crate::clocks::{Clocks, count_clocks, write_clocks};
 use crate::design::{Design, design_network};
-use crate::port_design::PortDesign;
+use crate::port_answer::PortDesign;
 use command_answers::Stop;
 use io_edge::{Sink, WriteFault};
 use port_rtl::write_port_rtl;

@@ -11,7 +11,7 @@ ghost use Rattle.rtl_answers.specs.Designing.{Designs, HasDesign, unit_refusal};
 
 use crate::answer::Answer;
 use crate::networks::network_for;
-use crate::port_design::port_design_of;
+use crate::port_answer::port_design_of;
 use bundle::parts_of;
 use command_answers::{Refusal, Stop, sized_nest};
 use loop_class::Params;

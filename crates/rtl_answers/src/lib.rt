@@ -10,7 +10,7 @@ mod clocks;
 mod design;
 mod laws;
 mod networks;
-mod port_design;
+mod port_answer;
 mod port_laws;
 mod program;
 
@@ -19,6 +19,6 @@ pub use call::compaan_rtl;
 pub use clocks::Clocks;
 pub use design::Design;
 pub use laws::{answered_clocks_are_those_of_designs, answered_port_clocks_end};
-pub use port_design::PortDesign;
+pub use port_answer::PortDesign;
 pub use port_laws::answered_port_clocks_are_those_of_designs;
 pub use program::run_design_program;

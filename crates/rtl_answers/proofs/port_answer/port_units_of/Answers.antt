@@ -11,7 +11,7 @@ use Rattle.node_automata.specs.Automata.{automata}
 use Rattle.node_automata.proofs.Places.{automata_length}
 use Rattle.port_text.specs.Units.{IsPortUnitOf}
 use Rattle.rtl_answers.proofs.Units.{few_values}
-use Rattle.rtl_answers.proofs.port_design.port_units_of.Goals as goal
+use Rattle.rtl_answers.proofs.port_answer.port_units_of.Goals as goal
 
 pub of-requires : goal.of-requires
 of-requires c =

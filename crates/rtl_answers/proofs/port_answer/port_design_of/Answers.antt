@@ -2,7 +2,7 @@ use Rattle.std.proofs.Common.{◌∙◌, refl, sym, ap, subst}
 use Rattle.std.specs.Option.{option_copied}
 use Rattle.port_rtl.specs.Designs.{ArePortUnitsOf, port_rtl_text}
 use Rattle.port_text.specs.Limits.{first_with_long_sequencer}
-use Rattle.rtl_answers.proofs.port_design.port_design_of.Goals as goal
+use Rattle.rtl_answers.proofs.port_answer.port_design_of.Goals as goal
 
 pub returns-in-Some : goal.returns-in-Some
 returns-in-Some c =

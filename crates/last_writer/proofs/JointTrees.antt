@@ -21,7 +21,7 @@ use Rattle.tree_graphs.specs.Joint.{IsCheckedForAll}
 use Rattle.tree_order.specs.Reads.{IsJoinedTree}
 use Rattle.tree_order.specs.Reads.{pair_in, pairs_of as pairs_of_read, pairs_with, IsJoined, StandsInLoopsOf}
 use Rattle.tree_graphs.specs.Joint.{ReadAndWrite}
-use Rattle.tree_order.specs.declared.candidates.Problem.{Problem}
+use Rattle.tree_graphs.specs.declared.writes.Problem.{Problem}
 use Rattle.tree_order.specs.declared.candidates.Read.{Read}
 use Rattle.int_polyhedra.specs.declared.system.System.{System}
 use Rattle.int_polyhedra.specs.Systems.{AreOver}
@@ -29,8 +29,6 @@ use Rattle.last_writer.specs.Answers.{answered_context}
 use Rattle.stride_trees.specs.Answers.{below_answer, HasSmallRows, IsSmallTest}
 use Rattle.last_writer.specs.Leaves.{context_of, fact_context, is_told, pairs_of, told_pair, told_pairs, vars_of}
 use Rattle.last_writer.specs.Leaves.{HasFacts, IsAnswered, IsBelow}
-use Rattle.last_writer.specs.Told.{IsToldOf}
-use Rattle.last_writer.specs.declared.source.Told.{Told}
 use Rattle.last_writer.specs.Writers.{is_never, stands_before, AreWriters, IsPlaceOf, IsReadOf, IsTestAt}
 use Rattle.last_writer.specs.Writers.{IsWriterOf}
 use Rattle.last_writer.specs.declared.leaves.Answered.{Answered}
@@ -169,6 +167,15 @@ few_pairs w h =
 abbrev IsAskedPair : ℕ → ReadAndWrite → Type 0
 IsAskedPair vars o = (p : ℕ) → HasLevel o.read o.write p → IsProblem vars o.read o.write p
 
+pub told_places : (w : Answered) → IsAnswered w → (x : Writer)
+    → IsWriterOf w.nest.now (occurrence_of w.read) w.tests.now x → is_told w.answers.now x ≡ true
+    → ArePlaces x.strides (vars_of w) x.places
+told_places w h x of says =
+    subst (λ d. ArePlaces x.strides (d + length w.tests.now) x.places)
+    (ap (λ (r : Occurrence). length r.statement.loops) of.read)
+    (writer_places w.nest.now (occurrence_of w.read) w.tests.now x h.few of
+    (told_asked w.answers.now x (omega (arith, h.answers, h.few)) says))
+
 asked_pair : (w : Answered) → IsAnswered w → (x : Writer)
     → IsWriterOf w.nest.now (occurrence_of w.read) w.tests.now x → is_told w.answers.now x ≡ true
     → IsAskedPair (vars_of w) (told_pair (vars_of w) x)
@@ -176,10 +183,7 @@ asked_pair w h x of says p level =
     let s : Strides = x.strides in
     let depth : depth_of_read s ≡ length w.read.statement.now.loops =
     ap (λ (r : Occurrence). length r.statement.loops) of.read in
-    let places : ArePlaces s (vars_of w) x.places
-    = subst (λ d. ArePlaces s (d + length w.tests.now) x.places) depth
-    (writer_places w.nest.now (occurrence_of w.read) w.tests.now x h.few of
-    (told_asked w.answers.now x (omega (arith, h.answers, h.few)) says)) in
+    let places : ArePlaces s (vars_of w) x.places = told_places w h x of says in
     told_problem s.nest.now (read_of s) (write_of s) s.level p (vars_of w) x.places of.strided.strided level
     (omega (arith, depth)) (omega (arith, few_loops w h, h.few)) places.each places.enough
 
@@ -224,25 +228,14 @@ read_joined w r h all same_vars small few pairs =
       few_rows = few;
     }
 
--- all writers are of the read
-pub reads_are : (w : Answered) → IsAnswered w
-    → All (λ (x : Writer). read_of x.strides ≡ occurrence_of w.read) w.writers.now
-reads_are w h =
-    All-weaker (IsWriterOf w.nest.now (occurrence_of w.read) w.tests.now)
-    (λ (x : Writer). read_of x.strides ≡ occurrence_of w.read) (λ x of. of.read) w.writers.now h.writers.each
-
 -- the problems that were added to none are the pairs that are told
-pub pairs_joined : (w : Answered) (r : Read) (old made given : List Problem) (told : List Told) → IsAnswered w
-    → AllZip (IsToldOf (vars_of w)) w.writers.now told → r.reference ≡ w.read → r.problems.now ≡ given → given ≡ made
-    → old ≡ []
-    → ((r : Read) (vars : ℕ) → AllZip (IsToldOf vars) w.writers.now told
-    → All (λ x. read_of x.strides ≡ occurrence_of r.reference) w.writers.now
-    → pairs_with r made ≡ pairs_with r old ++ told_pairs vars w.answers.now w.writers.now)
+pub pairs_joined : (w : Answered) (r : Read) (old made given : List Problem) → r.reference ≡ w.read
+    → r.problems.now ≡ given → given ≡ made → old ≡ []
+    → ((r : Read) → r.reference ≡ w.read
+    → pairs_with r made ≡ pairs_with r old ++ told_pairs (vars_of w) w.answers.now w.writers.now)
     → pairs_of_read r ≡ pairs_of w
-pairs_joined w r old made given told h zip reference problems is none pushed =
-    ap (pairs_with r) (problems ∙ is)
-    ∙ pushed r (vars_of w) zip
-    (subst (λ u. All (λ (x : Writer). read_of x.strides ≡ occurrence_of u) w.writers.now) (sym reference) (reads_are w h))
+pairs_joined w r old made given reference problems is none pushed =
+    ap (pairs_with r) (problems ∙ is) ∙ pushed r reference
     ∙ ap (λ ps. pairs_with r ps ++ told_pairs (vars_of w) w.answers.now w.writers.now) none
 
 -- The context below all answers
@@ -268,9 +261,9 @@ below_here w context here count all made small = record {
 -- the joined tree is checked there for the writes that are joined
 pub joined_below : (w : Answered) (r : Read) (context : System) (tree : Tree) → IsMadeAs context (fact_context w [])
     → r.context.now ≡ context → pairs_of_read r ≡ pairs_of w → IsJoinedTree r r.context.now tree
-    → IsCheckedForAll (pairs_of w) (fact_context w []) tree
+    → IsCheckedForAll every (pairs_of w) (fact_context w []) tree
 joined_below w r context tree made is pairs joined =
-    subst (λ ps. IsCheckedForAll ps (fact_context w []) tree) pairs
+    subst (λ ps. IsCheckedForAll every ps (fact_context w []) tree) pairs
     (joined (fact_context w []) (subst (λ (s : System). IsMadeAs s (fact_context w [])) (sym is) made))
 
 -- The context with facts

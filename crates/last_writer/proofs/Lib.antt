@@ -7,7 +7,6 @@ pub mod LevelCounts
 pub mod StatementWrites
 pub mod WriterLists
 pub mod JointTrees
-pub mod Nodes
 pub mod Opens
 pub mod WriterLeaves
 pub mod ReadClass

@@ -22,7 +22,7 @@ use Rattle.last_writer.specs.declared.leaves.Open.{Open}
 use Rattle.last_writer.specs.declared.leaves.Open.TheVariants.{First, Second}
 use Rattle.last_writer.specs.declared.leaves.Part.TheVariants.{Joined, Own}
 use Rattle.last_writer.proofs.TreeConversion.{test_converts, test_joined}
-use Rattle.source_tree.specs.Systems.{Context}
+use Rattle.source_tree.specs.Systems.{every, Context}
 use Rattle.source_tree.specs.declared.tree.Tree.{Tree}
 use Rattle.source_tree.specs.declared.tree.Tree.TheFolds.{fold-roll-Tree}
 use Rattle.source_tree.specs.declared.tree.Tree.TheOpen as open_
@@ -36,7 +36,7 @@ size_test tree form a b e =
     ap size_of (e ∙ sym (rolls-Test form a b)) ∙ fold-roll-Tree ℕ size_step (open_.Test form a b)
 
 -- a joined tree is a Test or a leaf
-pub checked_kinds : (pairs : List ReadAndWrite) (c : Context) (tree : Tree) → IsCheckedForAll pairs c tree
+pub checked_kinds : (pairs : List ReadAndWrite) (c : Context) (tree : Tree) → IsCheckedForAll every pairs c tree
     → ((form : Form) (upper lower : Tree) → tree ≡ Test form upper lower → ⊥)
     → ((s : ℕ) (place : List Form) (proofs : List Proof) → tree ≡ Writer s place proofs → ⊥)
     → ((proofs : List Proof) → tree ≡ Zero proofs → ⊥) → ((proof : Proof) → tree ≡ Dead proof → ⊥) → ⊥

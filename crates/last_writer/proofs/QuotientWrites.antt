@@ -15,12 +15,10 @@ use Rattle.std.proofs.lemmas.List.Elements.{All-cons, All-head, All-nil, All-tai
 use Rattle.std.proofs.lemmas.Simd.{map-map}
 use Rattle.tree_order.specs.Reads.{pair_in, read_in, write_in}
 use Rattle.tree_graphs.specs.Joint.{ReadAndWrite}
-use Rattle.tree_order.specs.declared.candidates.Problem.{Problem}
+use Rattle.tree_graphs.specs.declared.writes.Problem.{Problem}
 use Rattle.tree_order.specs.declared.candidates.Read.{Read}
 use Rattle.last_writer.specs.Leaves.{is_told, told_pair, told_pairs}
-use Rattle.last_writer.specs.Told.{IsTold}
 use Rattle.last_writer.specs.Writers.{stands_before, AreWriters}
-use Rattle.last_writer.specs.declared.source.Told.{Told}
 use Rattle.last_writer.specs.declared.writers.Writer.{Writer}
 use Rattle.source_tree.specs.declared.reference.Reference.{Reference}
 use Rattle.tree_graphs.proofs.Just.{written_number}
@@ -28,7 +26,7 @@ use Rattle.sanlp.specs.declared.nest.Nest.{Nest}
 use Rattle.sanlp.specs.declared.nest.Statement.{Statement}
 use Rattle.source_tree.specs.Systems.{Occurrence, array_writes, with_write, write_to, writes_from}
 use Rattle.source_tree.specs.References.{occurrence_of}
-use Rattle.stride_trees.specs.Problem.{problem_reads, problem_rows, told_read, told_write}
+use Rattle.stride_trees.specs.Problem.{problem_reads, problem_rows, told_read, told_write, IsToldProblem}
 use Rattle.stride_trees.specs.Strides.{depth_of_read, read_of, write_of}
 use Rattle.stride_trees.specs.declared.divisions.Division.{Division}
 
@@ -148,16 +146,15 @@ pub pairs_told : (vars : ℕ) (answers : List Bool) (w : Writer) (writers : List
 pairs_told vars answers w writers is =
     ap (λ b. map (told_pair vars) (cond b (w ∷ filter (is_told answers) writers) (filter (is_told answers) writers))) is
 
--- a problem with the rows and subscripts that are told is the writer's pair
-pub problem_pair : (r : Read) (p : Problem) (vars : ℕ) (w : Writer) (t : Told) → IsTold vars w t
-    → read_of w.strides ≡ occurrence_of r.reference → p.write ≡ w.strides.write → p.rows.now ≡ t.rows
-    → p.write_forms.now ≡ t.write_forms → p.read_forms.now ≡ t.read_forms → pair_in r p ≡ told_pair vars w
-problem_pair r p vars w t told of write rows write_forms read_forms =
+-- a problem over quotients is the writer's pair
+pub problem_pair : (r : Read) (p : Problem) (vars : ℕ) (w : Writer) → read_of w.strides ≡ occurrence_of r.reference
+    → IsToldProblem w.strides vars w.places p → pair_in r p ≡ told_pair vars w
+problem_pair r p vars w of told =
     let u : Occurrence = write_of w.strides in
     let read : read_in r p ≡ told_read vars w.places (read_of w.strides) u
     = ap (λ forms. record (occurrence_of r.reference) {
       access = record r.reference.access.now { subscripts = forms };
-    }) (read_forms ∙ told.read_forms)
+    }) told.read_forms
     ∙ ap (λ (o : Occurrence). record o {
       access = record o.access {
         subscripts = problem_reads vars (depth_of_read w.strides) w.places u.access.subscripts
@@ -167,17 +164,17 @@ problem_pair r p vars w t told of write rows write_forms read_forms =
     let own : write_in p ≡ told_write u
     = ap (λ (x : Reference). record {
       number = x.number;
-      statement = record x.statement.now { rows = p.rows.now };
-      access = record x.access.now { subscripts = p.write_forms.now };
-    }) write
+      statement = record x.statement.now { rows = p.rows };
+      access = record x.access.now { subscripts = p.write_forms };
+    }) told.write
     ∙ ap (λ rows. record u {
       statement = record u.statement { rows = rows };
-      access = record u.access { subscripts = p.write_forms.now };
-    }) (rows ∙ told.rows)
+      access = record u.access { subscripts = p.write_forms };
+    }) told.rows
     ∙ ap (λ forms. record u {
       statement = record u.statement { rows = problem_rows u.statement.rows };
       access = record u.access { subscripts = forms };
-    }) (write_forms ∙ told.write_forms) in
+    }) told.write_forms in
     ap (λ read. record { read = read; write = write_in p }) read
     ∙ ap (λ write. record { read = told_read vars w.places (read_of w.strides) u; write = write }) own
 

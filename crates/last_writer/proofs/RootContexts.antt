@@ -3,21 +3,21 @@
 -- The read is in the stride class, so its statement and its access are there, and all writers of its array together
 -- have at most six tests. The context is the reader's domain rows as they stand, over its loops alone: their numbers
 -- are those of the nest, and no answer has changed them. What is added by answers is told elsewhere.
-use Rattle.std.proofs.Common.{◌≡◌, ◌+◌, ◌≤◌, ◌++◌, ℕ, List, [], length, false, refl, sym, ap, ◌∙◌, subst, arith}
-use Rattle.std.specs.Prelude.{Some, All, IsTrue}
+use Rattle.std.proofs.Common.{◌≡◌, ◌+◌, ◌≤◌, ◌++◌, ℕ, List, [], length, refl, sym, ap, ◌∙◌, subst, arith}
+use Rattle.std.specs.Prelude.{Some, IsTrue}
 use Rattle.std.specs.List.{list_all, sum_by}
-use Rattle.std.proofs.lemmas.List.Elements.{All-nil, All-weaker}
+use Rattle.std.proofs.lemmas.List.Elements.{All-nil}
 use Rattle.std.proofs.lemmas.Option.{same_Some}
 use Rattle.tree_graphs.specs.Contexts.{IsMadeAs}
 use Rattle.int_polyhedra.specs.declared.system.System.{System}
 use Rattle.last_writer.specs.Answers.{answered_context}
 use Rattle.stride_trees.specs.Answers.{HasSmallRows}
-use Rattle.last_writer.specs.Leaves.{context_of, vars_of, IsAnswered}
-use Rattle.last_writer.specs.Writers.{is_never, AreWriters, IsReadOf, IsWriterOf}
+use Rattle.last_writer.specs.Leaves.{context_of, IsAnswered}
+use Rattle.last_writer.specs.Writers.{AreWriters, IsAskedRead, IsReadOf}
 use Rattle.last_writer.specs.declared.leaves.Answered.{Answered}
 use Rattle.last_writer.specs.declared.writers.Writer.{Writer}
 use Rattle.last_writer.proofs.Below.{answered_none}
-use Rattle.last_writer.proofs.JointTrees.{reader_fits, writer_places}
+use Rattle.last_writer.proofs.JointTrees.{reader_fits}
 use Rattle.last_writer.proofs.ReadClass.{reader_there, IsThere}
 use Rattle.source_tree.specs.declared.reference.Reference.{Reference}
 use Rattle.tree_graphs.proofs.MadeRows.{are_root, AreRoot}
@@ -28,16 +28,9 @@ use Rattle.source_tree.specs.Systems.{Occurrence, array_writes, every, read_at, 
 use Rattle.source_tree.specs.declared.tree.Tree.{Tree}
 use Rattle.source_tree.specs.References.{occurrence_of}
 use Rattle.tree_cuts.specs.Class.{stride_count, writes_strides, IsInStrideClass}
-use Rattle.stride_trees.specs.Strides.{depth_of_read, ArePlaces, IsStrided}
 use Rattle.stride_trees.specs.declared.divisions.Division.{Division}
 
 -- The read
-
--- what the class tells of a read
-pub record IsAskedRead (n : Nest) (r : Reference) : Type 0 where
-  pub read : IsReadOf n r
-  pub each : IsTrue (list_all writes_strides (array_writes n (occurrence_of r)))
-  pub few : sum_by stride_count (array_writes n (occurrence_of r)) ≤ 6
 
 pub asked_read : (n : Nest) (r : Reference) (k : ℕ) → IsInStrideClass n r.number k
     → read_at n r.number k ≡ Some (occurrence_of r) → IsAskedRead n r
@@ -84,24 +77,6 @@ begun w n r nest read asked writers none = record {
   few = omega (arith, writers.few, asked.few);
   answers = omega (arith, ap length none);
 }
-
--- The writers
-
-pub all_strided : (w : Answered) → IsAnswered w → All (λ (x : Writer). IsStrided x.strides) w.writers.now
-all_strided w h =
-    All-weaker (IsWriterOf w.nest.now (occurrence_of w.read) w.tests.now) (λ (x : Writer). IsStrided x.strides)
-    (λ x of. of.strided) w.writers.now h.writers.each
-
-pub all_placed : (w : Answered) (vars : ℕ) → IsAnswered w → vars ≡ vars_of w
-    → All (λ (x : Writer). is_never x ≡ false → ArePlaces x.strides vars x.places) w.writers.now
-all_placed w vars h is =
-    All-weaker (IsWriterOf w.nest.now (occurrence_of w.read) w.tests.now)
-    (λ (x : Writer). is_never x ≡ false → ArePlaces x.strides vars x.places)
-    (λ x of asked. (let depth : depth_of_read x.strides + length w.tests.now ≡ vars
-    = ap (λ (r : Occurrence). length r.statement.loops + length w.tests.now) of.read ∙ sym is in
-    subst (λ v. ArePlaces x.strides v x.places) depth
-    (writer_places w.nest.now (occurrence_of w.read) w.tests.now x h.few of asked)))
-    w.writers.now h.writers.each
 
 -- The context
 

@@ -26,14 +26,14 @@ use Rattle.stride_trees.specs.declared.divisions.Division.{Division}
 module _ (answers : List Bool) (c : Context) (further : Occurrence → List (List RowExpr)) where
   -- the systems of the writes that are joined
   pub told_are : (writers : List Writer) → flat_map (told_systems answers c further) writers
-      ≡ write_systems_of (told_pairs c.vars answers writers) c further
+      ≡ write_systems_of every (told_pairs c.vars answers writers) c further
   told_are [] = refl
   told_are (w ∷ writers) = go (is_told answers w) (told_are writers) where
     go : (b : Bool) → flat_map (told_systems answers c further) writers
-        ≡ write_systems_of (told_pairs c.vars answers writers) c further
+        ≡ write_systems_of every (told_pairs c.vars answers writers) c further
         → cond b (write_systems (told_pair c.vars w).read every c further (told_pair c.vars w).write) []
         ++ flat_map (told_systems answers c further) writers
-        ≡ write_systems_of (map (told_pair c.vars) (cond b (w ∷ filter (is_told answers) writers)
+        ≡ write_systems_of every (map (told_pair c.vars) (cond b (w ∷ filter (is_told answers) writers)
         (filter (is_told answers) writers))) c further
     go true rest = ap (λ xs. write_systems (told_pair c.vars w).read every c further (told_pair c.vars w).write ++ xs) rest
     go false rest = rest

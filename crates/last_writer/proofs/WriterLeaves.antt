@@ -9,7 +9,7 @@ use Rattle.std.specs.Prelude.{Some, Contains, nat_lt, slice_get}
 use Rattle.std.specs.List.{filter, flat_map}
 use Rattle.std.specs.Option.{option_map}
 use Rattle.std.proofs.lemmas.Bool.{eqb-true}
-use Rattle.std.proofs.lemmas.List.{append_assoc, drop_at, length-map, map-append, take_at}
+use Rattle.std.proofs.lemmas.List.{append_assoc, drop_at, map-append, take_at}
 use Rattle.std.proofs.lemmas.List.Elements.{All-contains}
 use Rattle.std.proofs.lemmas.Option.{same_Some, slice_get-map}
 use Rattle.affine_core.specs.declared.form.Form.{Form}
@@ -34,21 +34,19 @@ use Rattle.sanlp.proofs.Precedence.{common_first, common_second}
 use Rattle.sanlp.specs.declared.nest.Nest.{Nest}
 use Rattle.sanlp.specs.declared.nest.Statement.{Statement}
 use Rattle.source_tree.specs.Checked.{AreRefuted}
-use Rattle.source_tree.specs.Places.{at_place, before_rows, differ_rows, same_rows}
-use Rattle.source_tree.specs.Rows.{RowExpr, RowSystem, below_zero}
+use Rattle.source_tree.specs.Places.{before_rows, same_rows}
+use Rattle.source_tree.specs.Rows.{RowExpr, RowSystem}
 use Rattle.source_tree.specs.Systems.{Context, Occurrence, after_systems, array_writes, cell_systems, every, named_write}
 use Rattle.source_tree.specs.Systems.{outside_systems, reader_place, with_rows, write_systems}
 use Rattle.source_tree.proofs.Refutations.{length-AreRefuted}
 use Rattle.source_tree.specs.References.{occurrence_of}
 use Rattle.stride_trees.specs.Contexts.{outside_cell_systems, IsPlaceIn}
-use Rattle.stride_trees.specs.Problem.{problem_rows, problem_write, told_read, told_write}
-use Rattle.tree_cuts.specs.Sources.{divided_form}
+use Rattle.stride_trees.specs.Problem.{told_read, told_write}
 use Rattle.stride_trees.specs.Strides.{depth_of_write, read_of, write_of}
 use Rattle.stride_trees.specs.declared.strides.Strides.{Strides}
 use Rattle.stride_trees.proofs.ProblemBounds.{are_fitting, AreFitting}
-use Rattle.stride_trees.proofs.LeafConversion.{length-differ_rows}
+use Rattle.stride_trees.proofs.LeafConversion.{head_apart, place_count}
 use Rattle.stride_trees.proofs.Lists.{refuted_apart, AreRefutedBoth}
-use Rattle.stride_trees.proofs.SystemConversion.{reads_count}
 
 -- The writer of a number
 
@@ -156,19 +154,15 @@ module _ (w : Answered) (here : ℕ) (rest : List RowExpr) (number : ℕ) (place
   after = after_systems r c u place
 
   abbrev between : List RowSystem
-  between = write_systems_of (pairs_of w) c (orders_behind u place c)
-
-  regroup : (a b d e : List RowSystem) → (a ++ (b ++ d)) ++ e ≡ (a ++ b) ++ (d ++ e)
-  regroup a b d e =
-      append_assoc a (b ++ d) e ∙ ap (λ xs. a ++ xs) (append_assoc b d e) ∙ sym (append_assoc a b (d ++ e))
+  between = write_systems_of every (pairs_of w) c (orders_behind u place c)
 
   pub told_refuted : AreRefuted (outside ++ (after ++ between)) told
   told_refuted =
       subst (λ xs. AreRefuted xs told)
-      (regroup (outside_systems c u' place) (cell_systems r' c u' place) after between)
+      (head_apart (outside_systems c u' place) (cell_systems r' c u' place) after between)
       (subst (λ (o : ReadAndWrite). AreRefuted ((outside_systems c o.write place
       ++ (cell_systems o.read c o.write place ++ after_systems o.read c o.write place))
-      ++ write_systems_of (pairs_of w) c (orders_behind o.write place c)) told) (sym pair_is.0) j.refuted)
+      ++ write_systems_of every (pairs_of w) c (orders_behind o.write place c)) told) (sym pair_is.0) j.refuted)
 
   pub first : AreRefutedBoth outside (after ++ between) told
   first = refuted_apart outside (after ++ between) told told_refuted
@@ -179,31 +173,20 @@ module _ (w : Answered) (here : ℕ) (rest : List RowExpr) (number : ℕ) (place
   pub is_place : IsPlaceIn c (depth_of_write s) place
   is_place = record { deep = deep; over = j.over; within = j.within }
 
-  pub place_count : length first.front ≡ length s.write.statement.now.rows + 2 * length s.write.access.now.subscripts
-  place_count =
-      omega (
-        arith,
-        length-AreRefuted outside first.front first.of_first,
-        length-append (outside_systems c u' place) (cell_systems r' c u' place),
-        length-map (problem_rows u.statement.rows) (λ row. with_rows c (below_zero (at_place row place) ∷ [])),
-        length-map u.statement.rows divided_form,
-        length-map (differ_rows u'.access.subscripts r'.access.subscripts place) (λ row. with_rows c (row ∷ [])),
-        length-differ_rows u'.access.subscripts r'.access.subscripts place
-            (length-map u.access.subscripts problem_write
-            ∙ reads_count c.vars (length r.statement.loops) x.places u.access.subscripts r.access.subscripts fits.even),
-        length-map u.access.subscripts problem_write,
-      )
+  pub cell_count : length first.front ≡ length s.write.statement.now.rows + 2 * length s.write.access.now.subscripts
+  cell_count =
+      length-AreRefuted outside first.front first.of_first ∙ place_count s of.strided x.places c place
 
   -- the cuts
   module _ (cells : ℕ) (cells_are : cells ≡ domain_cell_rows u) where
     pub front_is : take cells told ≡ first.front
-    front_is = ap (take cells) first.is ∙ take_at first.front first.back cells (place_count ∙ sym cells_are)
+    front_is = ap (take cells) first.is ∙ take_at first.front first.back cells (cell_count ∙ sym cells_are)
 
     pub back_is : drop cells told ≡ first.back
-    back_is = ap (drop cells) first.is ∙ drop_at first.front first.back cells (place_count ∙ sym cells_are)
+    back_is = ap (drop cells) first.is ∙ drop_at first.front first.back cells (cell_count ∙ sym cells_are)
 
     pub cells_inside : cells ≤ length told
-    cells_inside = omega (arith, ap length first.is, length-append first.front first.back, place_count, cells_are)
+    cells_inside = omega (arith, ap length first.is, length-append first.front first.back, cell_count, cells_are)
 
   -- where the write is of the reader's statement, both have the same loops
   same_loops : (u.number == r.number) ≡ true → length u.statement.loops ≡ length r.statement.loops

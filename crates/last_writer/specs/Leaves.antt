@@ -1,9 +1,9 @@
 -- Leaves below tests of divisibility: the writes that are joined there, and proofs for the writes of all writers.
-use Rattle.std.specs.Prelude.{◌≡◌, ◌≤◌, ◌<◌, ◌+◌, ◌*◌, ◌^◌, ◌==◌, ℕ, Bool, true, false, Contains, slice_get, List, [], ◌∷◌, ◌++◌, map, length, nat_lt, All, Option, Some, None, slice_index_or, if◌then◌else◌}
+use Rattle.std.specs.Prelude.{◌≡◌, ◌≤◌, ◌<◌, ◌+◌, ◌*◌, ◌^◌, ◌==◌, ℕ, Bool, true, false, Contains, slice_get, List, [], ◌∷◌, ◌++◌, map, length, nat_lt, Option, Some, None, slice_index_or, if◌then◌else◌}
 use Rattle.std.specs.List.{AllZip, filter, flat_map, list_all, range_with_len}
 use Rattle.affine_core.specs.declared.form.Form.{Form}
 use Rattle.tree_order.specs.Candidates.{levels_before}
-use Rattle.tree_graphs.specs.Joint.{place_systems, IsCheckedForAll, IsSum}
+use Rattle.tree_graphs.specs.Joint.{IsCheckedForAll, IsPointFor}
 use Rattle.tree_graphs.specs.Joint.{ReadAndWrite}
 use Rattle.int_polyhedra.specs.declared.system.Proof.{Proof}
 use Rattle.last_writer.specs.Answers.{answered_context}
@@ -13,8 +13,7 @@ use Rattle.last_writer.specs.declared.leaves.Refusal.{Refusal}
 use Rattle.last_writer.specs.declared.writers.Writer.{Writer}
 use Rattle.tree_graphs.specs.Level.{common_of}
 use Rattle.source_tree.specs.declared.reference.Reference.{Reference}
-use Rattle.tree_sums.specs.Parts.{IsWithin}
-use Rattle.source_tree.specs.Checked.{AreRefuted, HaveVariables, IsCheckedIn, IsRefuted}
+use Rattle.source_tree.specs.Checked.{AreRefuted, IsCheckedIn, IsRefuted}
 use Rattle.source_tree.specs.Places.{before_rows, same_rows}
 use Rattle.source_tree.specs.Rows.{RowExpr, RowSystem}
 use Rattle.source_tree.specs.Systems.{Context, Occurrence, array_writes, every, more_rows, named_write, reader_place, root_context, write_systems, writer_place, writer_systems}
@@ -91,7 +90,7 @@ own_context w rest = more_rows (context_of w) rest
 abbrev pub Converts : Answered → ℕ → Tree → Tree → Type 0
 Converts w here tree own =
     (rest : List RowExpr) → IsBelow w here (fact_context w rest)
-    → IsCheckedForAll (pairs_of w) (fact_context w rest) tree
+    → IsCheckedForAll every (pairs_of w) (fact_context w rest) tree
     → IsCheckedIn w.nest.now (occurrence_of w.read) every (own_context w rest) own
 
 -- the answers and the facts of a leaf whose context has so many rows without the facts
@@ -118,7 +117,7 @@ pub record IsJoinedBelow (w : Answered) (here : ℕ) (tree : Tree) : Type 0 wher
   pub facts : HasFacts w
   pub rest : List RowExpr
   pub below : IsBelow w here (fact_context w rest)
-  pub checked : IsCheckedForAll (pairs_of w) (fact_context w rest) tree
+  pub checked : IsCheckedForAll every (pairs_of w) (fact_context w rest) tree
 
 -- Proofs were added that refute these systems, where the first of the proofs that were told refute others. The rest of
 -- those is for what comes behind.
@@ -257,16 +256,8 @@ HasWriter writers number =
     (w : Writer) × Contains writers w × (w.strides.write.number ≡ number)
 
 -- the proofs are those of a joined Writer leaf for the write of this number, in this context
-pub record IsJoinedPoint (w : Answered) (c : Context) (number : ℕ) (place : List Form)
-    (proofs : List Proof) : Type 0 where
-  pub pair : ReadAndWrite
-  pub among : Contains (pairs_of w) pair
-  pub number_is : number ≡ pair.write.number
-  pub deep : length place ≡ length pair.write.statement.loops
-  pub over : HaveVariables c.vars place
-  pub within : All (IsWithin (2 ^ 48)) place
-  pub refuted : AreRefuted (place_systems (pairs_of w) pair place c) proofs
-  pub sums : All IsSum proofs
+abbrev pub IsJoinedPoint : Answered → Context → ℕ → List Form → List Proof → Type 0
+IsJoinedPoint w = IsPointFor every (pairs_of w)
 
 -- they are those of a Writer leaf of the nest
 pub record IsOwnPoint (w : Answered) (c : Context) (number : ℕ) (place : List Form)

@@ -1,12 +1,13 @@
 -- The writers of a read's array, and their tests of divisibility, each once.
-use Rattle.std.specs.Prelude.{◌≡◌, ◌≤◌, ◌==◌, ℕ, Bool, true, false, List, ◌++◌, map, length, nat_lt, All, Some, Contains, slice_get}
-use Rattle.std.specs.List.{AllZip, filter, list_any, sum_by}
+use Rattle.std.specs.Prelude.{◌≡◌, ◌≤◌, ◌==◌, ℕ, Bool, true, false, List, ◌++◌, map, length, nat_lt, All, Some, Contains, slice_get, IsTrue}
+use Rattle.std.specs.List.{AllZip, filter, list_all, list_any, sum_by}
 use Rattle.tree_order.specs.Candidates.{levels_before}
 use Rattle.last_writer.specs.declared.writers.Writer.{Writer}
 use Rattle.source_tree.specs.declared.reference.Reference.{Reference}
 use Rattle.sanlp.specs.declared.nest.Nest.{Nest}
-use Rattle.source_tree.specs.Systems.{Occurrence}
-use Rattle.tree_cuts.specs.Class.{stride_count}
+use Rattle.source_tree.specs.Systems.{array_writes, Occurrence}
+use Rattle.source_tree.specs.References.{occurrence_of}
+use Rattle.tree_cuts.specs.Class.{stride_count, writes_strides}
 use Rattle.stride_trees.specs.Answers.{IsSmallTest}
 use Rattle.stride_trees.specs.Divisions.{never_divides}
 use Rattle.stride_trees.specs.Strides.{read_of, tests_of, write_of, IsStrided}
@@ -62,6 +63,12 @@ is_never w = list_any (λ place. place == no_place) w.places
 pub record IsReadOf (n : Nest) (r : Reference) : Type 0 where
   pub statement : slice_get n.statements r.number ≡ Some r.statement.now
   pub access : (k : ℕ) × (slice_get r.statement.now.reads k ≡ Some r.access.now)
+
+-- the reference is a read of the stride class
+pub record IsAskedRead (n : Nest) (r : Reference) : Type 0 where
+  pub read : IsReadOf n r
+  pub each : IsTrue (list_all writes_strides (array_writes n (occurrence_of r)))
+  pub few : sum_by stride_count (array_writes n (occurrence_of r)) ≤ 6
 
 -- the statement of the write stands before the read at some level of order
 abbrev pub stands_before : Occurrence → Occurrence → Bool

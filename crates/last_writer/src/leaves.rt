@@ -4,7 +4,6 @@ ghost use Rattle.affine_core.specs.declared.form.Form.{Form as FormOf};
 ghost use Rattle.tree_graphs.specs.Heights.{height_of};
 ghost use Rattle.tree_graphs.specs.Joint.{no_orders, write_systems_of, IsSum};
 ghost use Rattle.int_polyhedra.specs.declared.system.Proof.{Proof as ProofOf};
-ghost use Rattle.int_polyhedra.specs.declared.system.Proof.TheVariants.{Sum};
 ghost use Rattle.last_writer.specs.Leaves.{after_counts as counts_after, all_orders, answer_at as answer_of, domain_cell_rows, counts_behind as behind_counts, fact_context, is_told, level_count_of, order_counts, own_context, own_place_systems, own_systems, pairs_of, write_vars, told_place_systems, told_systems, AddsOrderProofs, AddsProofs, AreOrderRows, Converts, HasWriter, HaveOrderRows, HaveRowCounts, IsAnswered, IsAtLeaf, IsFurther, IsJoinedBelow, IsJoinedPoint, IsLeafBelow, IsOwnPoint, IsRefusal, IsRefusalAmong, IsRefusedContext, IsWithoutFacts};
 ghost use Rattle.last_writer.specs.Converted.{turns_left, IsConverting};
 ghost use Rattle.last_writer.specs.Writers.{IsWriterOf};
@@ -19,13 +18,14 @@ ghost use Rattle.source_tree.specs.References.{occurrence_of};
 
 use crate::writers::{NO_PLACE, Writer};
 use affine_core::{Form, Row};
-use int_polyhedra::{Proof, Term};
+use int_polyhedra::Proof;
 use plain_data::Items;
 use sanlp::{Nest, common_loops};
 use source_tree::{Reference, Tree};
 use std::alloc::{AllocError, Global};
 use stride_trees::{
-    Division, Strides, converted_place, converted_write, never_write, undivided_write,
+    Division, Strides, back, converted_place, converted_write, front, never_write, sum_terms,
+    undivided_write,
 };
 use tree_cuts::Cut;
 use tree_facts::{proof_by_cuts, proofs_by_cuts};
@@ -395,17 +395,6 @@ fn push_writers(
     push_writers(proofs, w, here, behind, writers, told)
 }
 
-// The terms of a Sum.
-fn sum_terms(proof: &Proof) -> &[Term]
-    requires { IsSum proof.now }
-    ensures { proof.now ≡ Sum result.now }
-{
-    match proof {
-        Proof::Sum(terms) => terms.as_slice(),
-        _ => unreachable!(),
-    }
-}
-
 // Adds the first of these Sums, one for each of these numbers of order rows. Gives those that are left.
 fn push_sums<'t>(
     proofs: &mut Items<Proof>,
@@ -463,22 +452,6 @@ fn writer_at<'a>(writers: &'a [Writer<'a>], number: u32) -> &'a Writer<'a>
         return writer;
     }
     writer_at(writers, number)
-}
-
-// The first so many proofs.
-fn front(proofs: &[Proof], count: usize) -> &[Proof]
-    requires { count ≤ length proofs.now }
-    ensures { result.now ≡ take count proofs.now }
-{
-    &proofs[..count]
-}
-
-// The proofs behind the first so many.
-fn back(proofs: &[Proof], count: usize) -> &[Proof]
-    requires { count ≤ length proofs.now }
-    ensures { result.now ≡ drop count proofs.now }
-{
-    &proofs[count..]
 }
 
 // The proofs that a place is in the domain and writes the read's cell, from those over quotients.
@@ -540,7 +513,7 @@ fn none_proofs(w: &Answered, here: u32, told: &[Proof]) -> Result<Items<Proof>, 
     requires leaf { IsLeafBelow w.now here }
     requires sums { All IsSum told.now }
     ensures { IfOk result (λ proofs. (rest : List RowExpr) → IsAtLeaf w.now here rest
-        → AreRefuted (write_systems_of (pairs_of w.now) (fact_context w.now rest) no_orders)
+        → AreRefuted (write_systems_of every (pairs_of w.now) (fact_context w.now rest) no_orders)
         told.now
         → AreRefuted (zero_systems w.now.nest.now (occurrence_of w.now.read) every
         (own_context w.now rest)) proofs) }

@@ -1,115 +1,66 @@
-ghost use Rattle.std.specs.Prelude.{◌≡◌, ◌≤◌, ◌<◌, ◌+◌, ◌*◌, ◌≤ℤ◌, ◌^◌, ◌++◌, [], ◌∷◌, ℕ, pos, false, if◌then◌else◌, List, length, slice_get, All, Some, None, IfOk, IfSome, IsTrue, MatchOption, OnOk};
-ghost use Rattle.std.specs.List.{AllZip};
+ghost use Rattle.std.specs.Prelude.{◌≡◌, ◌≤◌, ◌<◌, ◌+◌, ◌*◌, ◌≤ℤ◌, ◌^◌, ◌++◌, [], ◌∷◌, ℕ, pos, false, if◌then◌else◌, length, slice_get, All, Some, None, IfOk, IsTrue, MatchOption, OnOk};
 ghost use Rattle.affine_core.specs.Affine.{widened_form};
 ghost use Rattle.tree_graphs.specs.Contexts.{IsMadeAs};
 ghost use Rattle.tree_order.specs.Reads.{pairs_with};
 ghost use Rattle.tree_order.specs.declared.candidates.Read.{Read as ReadOf};
 ghost use Rattle.last_writer.specs.Answers.{answered_context};
 ghost use Rattle.last_writer.specs.Leaves.{context_of, fact_context, told_pairs, vars_of, HasFacts, IsAnswered};
-ghost use Rattle.last_writer.specs.Told.{IsToldOf};
-ghost use Rattle.last_writer.specs.Writers.{is_never};
-ghost use Rattle.last_writer.specs.declared.source.Told.{Told as ToldOf};
+ghost use Rattle.last_writer.specs.Writers.{AreWriters, IsAskedRead, IsWriterOf};
 ghost use Rattle.source_tree.specs.Checked.{IsChecked, IsCheckedIn};
 ghost use Rattle.source_tree.specs.Exact.{IsExact};
-ghost use Rattle.source_tree.specs.Systems.{every, read_at, root_context, Context, Occurrence};
+ghost use Rattle.source_tree.specs.Systems.{array_writes, every, read_at, root_context, Context, Occurrence};
 ghost use Rattle.sanlp.specs.declared.nest.Nest.{Nest as NestOf};
 ghost use Rattle.source_tree.specs.declared.tree.Tree.TheViews.{Divides as DividesOf};
 ghost use Rattle.tree_cuts.specs.Class.{IsInStrideClass};
 ghost use Rattle.stride_trees.specs.Answers.{HasSmallRows, IsSmallTest};
 ghost use Rattle.stride_trees.specs.Contexts.{IsNoIn};
 ghost use Rattle.stride_trees.specs.Divisions.{always_divides};
-ghost use Rattle.stride_trees.specs.Strides.{read_of, ArePlaces, IsStrided};
 ghost use Rattle.source_tree.specs.References.{occurrence_of};
 
 use crate::leaves::{Answered, converted, refusal_of};
-use crate::writers::{Writer, is_never, push_writers};
-use affine_core::{Form, KeptForm, KeptNumber, Row};
+use crate::writers::{Writer, push_writers};
+use affine_core::{KeptForm, KeptNumber};
 use int_polyhedra::System;
 use plain_data::{Boxed, Items};
 use sanlp::{Nest, Statement};
 use source_tree::{Reference, Tree};
 use std::alloc::{AllocError, Global};
-use stride_trees::{
-    Division, always_divides, below_test, divided_rows, no_is_nowhere, told_reads, told_writes,
-};
+use stride_trees::{Division, always_divides, below_test, no_is_nowhere, problem_of};
 use tree_facts::{Tests, facts_of, with_facts};
+use tree_graphs::{Problem, system_of};
 use tree_join::join;
-use tree_order::{Problem, Read};
+use tree_order::Read;
 
-// A write over quotients: its domain rows and subscripts, and those of the read.
-#[derive(Drop)]
-struct Told {
-    rows: Items<Row>,
-    write_forms: Items<Form>,
-    read_forms: Items<Form>,
-}
-
-// The write over quotients. Nothing is told of a writer that has no write before the read.
-fn told_of(writer: &Writer, vars: usize) -> Result<Told, AllocError>
-    requires strided { IsStrided writer.now.strides }
-    requires places { is_never writer.now ≡ false
-        → ArePlaces writer.now.strides vars writer.now.places }
-    ensures { IfOk result (IsToldOf vars writer.now) }
+// How many variables there are below all tests.
+fn vars_in(w: &Answered) -> usize
+    requires { IsAnswered w.now }
+    ensures { result ≡ vars_of w.now }
 {
-    let s = &writer.strides;
-    if is_never(writer) {
-        return Ok(Told {
-            rows: Items::new(s.alloc),
-            write_forms: Items::new(s.alloc),
-            read_forms: Items::new(s.alloc),
-        });
-    }
-    Ok(Told {
-        rows: divided_rows(s.alloc, s.write.statement.rows.as_slice())?,
-        write_forms: told_writes(s.alloc, s.write.access.subscripts.as_slice())?,
-        read_forms: told_reads(s, vars, writer.places.as_slice())?,
-    })
-}
-
-// Adds these writers over so many variables.
-fn push_told(told: &mut Items<Told>, writers: &[Writer], vars: usize) -> Result<(), AllocError>
-    requires strided { All (λ w. IsStrided w.strides) writers.now }
-    requires places { All (λ w. is_never w ≡ false → ArePlaces w.strides vars w.places) writers.now }
-    ensures { OnOk result ((more : List ToldOf) × (told.new ≡ told.old ++ more)
-        × AllZip (IsToldOf vars) writers.now more) }
-{
-    let Some((writer, writers)) = writers.split_first() else {
-        return Ok(());
-    };
-    told.push(told_of(writer, vars)?)?;
-    push_told(told, writers, vars)
+    w.read.statement.loops.len() + w.tests.len()
 }
 
 // Adds the problems of those of these writers whose tests all say yes.
 fn push_problems<'a>(
     problems: &mut Items<Problem<'a>>,
+    w: &Answered<'a>,
     writers: &'a [Writer<'a>],
-    told: &'a [Told],
-    answers: &[bool],
 ) -> Result<(), AllocError>
-    requires places { All (λ w. length w.divisions ≡ length w.places) writers.now }
-    requires few { length answers.now ≤ 6 }
-    ensures { OnOk result ((r : ReadOf) (vars : ℕ) → AllZip (IsToldOf vars) writers.now told.now
-        → All (λ w. read_of w.strides ≡ occurrence_of r.reference) writers.now
-        → pairs_with r problems.new
-        ≡ pairs_with r problems.old ++ told_pairs vars answers.now writers.now) }
+    requires answered { IsAnswered w.now }
+    requires writers { All (IsWriterOf w.now.nest.now (occurrence_of w.now.read) w.now.tests.now)
+        writers.now }
+    ensures { OnOk result ((r : ReadOf) → r.reference ≡ w.now.read
+        → pairs_with r problems.new ≡ pairs_with r problems.old
+        ++ told_pairs (vars_of w.now) w.now.answers.now writers.now) }
 {
     let Some((writer, writers)) = writers.split_first() else {
         return Ok(());
     };
-    let Some((first, told)) = told.split_first() else {
-        return Ok(());
-    };
-    match refusal_of(writer, answers) {
-        Some(_) => push_problems(problems, writers, told, answers),
+    match refusal_of(writer, w.answers) {
+        Some(_) => push_problems(problems, w, writers),
         None => {
-            problems.push(Problem {
-                write: writer.strides.write,
-                rows: first.rows.as_slice(),
-                write_forms: first.write_forms.as_slice(),
-                read_forms: first.read_forms.as_slice(),
-            })?;
-            push_problems(problems, writers, told, answers)
+            let problem = problem_of(&writer.strides, vars_in(w), writer.places.as_slice())?;
+            problems.push(problem)?;
+            push_problems(problems, w, writers)
         }
     }
 }
@@ -129,9 +80,8 @@ fn read_with<'a>(w: &Answered<'a>, context: &'a System, problems: &'a [Problem<'
 }
 
 // The tree in a context with the facts of that where all tests have an answer.
-fn joined_in<'a>(w: &Answered<'a>, told: &'a [Told], there: &'a System) -> Result<Tree, AllocError>
+fn joined_in<'a>(w: &Answered<'a>, there: &'a System) -> Result<Tree, AllocError>
     requires answered { IsAnswered w.now }
-    requires told { AllZip (IsToldOf (vars_of w.now)) w.now.writers.now told.now }
     requires all { length w.now.answers.now ≡ length w.now.tests.now }
     requires facts { HasFacts w.now }
     requires made { IsMadeAs there.now (fact_context w.now []) }
@@ -141,7 +91,7 @@ fn joined_in<'a>(w: &Answered<'a>, told: &'a [Told], there: &'a System) -> Resul
         (context_of w.now)) }
 {
     let mut problems = Items::new(w.alloc);
-    push_problems(&mut problems, w.writers, told, w.answers)?;
+    push_problems(&mut problems, w, w.writers)?;
     let read = read_with(&*w, &*there, problems.as_slice());
     let tree = join(&read)?;
     converted(w, there.rows.len() as u32, tree)
@@ -159,9 +109,8 @@ fn tests_in<'a>(w: &Answered<'a>) -> Tests<'a>
 }
 
 // The tree where all tests of divisibility have an answer.
-fn joined<'a>(w: &Answered<'a>, told: &'a [Told], context: &'a System) -> Result<Tree, AllocError>
+fn joined<'a>(w: &Answered<'a>, context: &'a System) -> Result<Tree, AllocError>
     requires answered { IsAnswered w.now }
-    requires told { AllZip (IsToldOf (vars_of w.now)) w.now.writers.now told.now }
     requires all { length w.now.answers.now ≡ length w.now.tests.now }
     requires made { IsMadeAs context.now (context_of w.now) }
     requires rows { HasSmallRows context.now }
@@ -177,7 +126,7 @@ fn joined<'a>(w: &Answered<'a>, told: &'a [Told], context: &'a System) -> Result
         ..*w
     };
     let there = with_facts(w.alloc, context, more.facts)?;
-    joined_in(&more, told, &there)
+    joined_in(&more, &there)
 }
 
 // The test over the variables of a context, with the trees of its yes and its no.
@@ -220,9 +169,8 @@ fn next_test<'a>(w: &Answered<'a>) -> Option<&'a Division>
 
 // The tree below the answers, whose context this is.
 #[cycle(answered)]
-fn answered<'a>(w: &Answered<'a>, told: &'a [Told], context: &'a System) -> Result<Tree, AllocError>
+fn answered<'a>(w: &Answered<'a>, context: &'a System) -> Result<Tree, AllocError>
     requires answered { IsAnswered w.now }
-    requires told { AllZip (IsToldOf (vars_of w.now)) w.now.writers.now told.now }
     requires made { IsMadeAs context.now (context_of w.now) }
     requires rows { HasSmallRows context.now }
     requires count { length context.now.rows
@@ -231,10 +179,10 @@ fn answered<'a>(w: &Answered<'a>, told: &'a [Told], context: &'a System) -> Resu
         (context_of w.now)) }
 {
     let Some(test) = next_test(w) else {
-        return joined(w, told, context);
+        return joined(w, context);
     };
-    let yes = answered_next(w, told, context, test, true)?;
-    match answered_next(w, told, context, test, false) {
+    let yes = answered_next(w, context, test, true)?;
+    match answered_next(w, context, test, false) {
         Ok(no) => {
             let alloc = w.alloc;
             divides(alloc, context, test, yes, no)
@@ -274,13 +222,11 @@ fn nowhere(alloc: Global, test: &Division, before: u32) -> Result<Tree, AllocErr
 #[cycle(answered)]
 fn answered_next<'a>(
     w: &Answered<'a>,
-    told: &'a [Told],
     context: &'a System,
     test: &Division,
     answer: bool,
 ) -> Result<Tree, AllocError>
     requires answered { IsAnswered w.now }
-    requires told { AllZip (IsToldOf (vars_of w.now)) w.now.writers.now told.now }
     requires made { IsMadeAs context.now (context_of w.now) }
     requires rows { HasSmallRows context.now }
     requires count { length context.now.rows
@@ -300,7 +246,7 @@ fn answered_next<'a>(
         answers: answers.as_slice(),
         ..*w
     };
-    answered(&more, told, &next)
+    answered(&more, &next)
 }
 
 fn reference_of<'a>(nest: &'a Nest, statement: u32, read: u32) -> Reference<'a>
@@ -322,23 +268,11 @@ fn root(alloc: Global, reader: &Statement) -> Result<System, AllocError>
     ensures { IfOk result (λ context. context
         ≡ record { vars = length reader.now.loops; rows = reader.now.rows }) }
 {
-    Ok(System {
-        vars: reader.loops.len() as u32,
-        rows: copy_rows(alloc, reader.rows.as_slice())?,
-    })
+    let vars = reader.loops.len() as u32;
+    system_of(alloc, vars, reader.rows.as_slice())
 }
 
-fn copy_rows(alloc: Global, rows: &[Row]) -> Result<Items<Row>, AllocError>
-    ensures { IfOk result (λ copies. copies ≡ rows.now) }
-{
-    let mut copies = Items::new(alloc);
-    for row in rows {
-        copies.push(row.copy())?;
-    }
-    Ok(copies)
-}
-
-// The writers of a read, none of whose tests has an answer.
+// All writers of a read, none of whose tests has an answer.
 fn unanswered<'a>(
     alloc: Global,
     nest: &'a Nest,
@@ -346,10 +280,12 @@ fn unanswered<'a>(
     writers: &'a [Writer<'a>],
     tests: &'a [Division],
 ) -> Answered<'a>
+    requires asked { IsAskedRead nest.now read.now }
+    requires writers { AreWriters nest.now (occurrence_of read.now)
+        (array_writes nest.now (occurrence_of read.now)) tests.now writers.now }
+    ensures answered { IsAnswered result }
     ensures nest { result.nest.now ≡ nest.now }
     ensures read { result.read ≡ read.now }
-    ensures writers { result.writers.now ≡ writers.now }
-    ensures tests { result.tests.now ≡ tests.now }
     ensures answers { result.answers.now ≡ [] }
 {
     Answered {
@@ -366,8 +302,7 @@ fn unanswered<'a>(
 
 // The tree of a read.
 fn tree_of<'a>(alloc: Global, nest: &'a Nest, read: &Reference<'a>) -> Result<Tree, AllocError>
-    requires class { (k : ℕ) × IsInStrideClass nest.now read.now.number k
-        × (read_at nest.now read.now.number k ≡ Some (occurrence_of read.now)) }
+    requires { IsAskedRead nest.now read.now }
     ensures { IfOk result (IsCheckedIn nest.now (occurrence_of read.now) every
         (root_context (occurrence_of read.now))) }
 {
@@ -376,11 +311,8 @@ fn tree_of<'a>(alloc: Global, nest: &'a Nest, read: &Reference<'a>) -> Result<Tr
     let statements = nest.statements.as_slice();
     push_writers(&mut writers, &mut tests, nest, read, statements, 0)?;
     let w = unanswered(alloc, &*nest, &*read, writers.as_slice(), tests.as_slice());
-    let vars = w.read.statement.loops.len() + w.tests.len();
-    let mut told = Items::new(alloc);
-    push_told(&mut told, w.writers, vars)?;
     let context = root(alloc, read.statement)?;
-    answered(&w, told.as_slice(), &context)
+    answered(&w, &context)
 }
 
 /// Which write a read has its value from at each point of the reader, as one tree, which is

@@ -1,6 +1,6 @@
 ghost use Rattle.std.specs.Prelude.{◌≡◌, ◌<◌, ◌≤◌, ◌≤ℤ◌, ◌+◌, ◌^◌, [], ◌∷◌, ◌++◌, ℕ, pos, List, drop, length, All, None, Some, slice_get, IfOk, IfSome, IsTrue, MatchOption, OnOk};
 ghost use Rattle.std.specs.List.{list_all, sum_by};
-ghost use Rattle.last_writer.specs.Writers.{is_never, AddsPlaces, AddsTests, AreWriters, IsPlaceOf, IsReadOf, IsTestAt, IsWriterOf};
+ghost use Rattle.last_writer.specs.Writers.{AddsPlaces, AddsTests, AreWriters, IsPlaceOf, IsReadOf, IsTestAt, IsWriterOf};
 ghost use Rattle.source_tree.specs.Systems.{read_at, with_write, write_to as write_of, writes_from, Occurrence};
 ghost use Rattle.tree_cuts.specs.Class.{stride_count, writes_strides};
 ghost use Rattle.stride_trees.specs.Strides.{read_of, tests_of, write_of as strides_write, AreStrided, IsStrided};
@@ -120,17 +120,6 @@ fn push_places(
     let place = place_of(tests, division)?;
     places.push(place)?;
     push_places(places, tests, divisions)
-}
-
-/// Whether a test of the writer says no by its form alone, so that it has no write before the read.
-pub fn is_never(writer: &Writer) -> bool
-    ensures { result ≡ is_never writer.now }
-{
-    writer
-        .places
-        .as_slice()
-        .iter()
-        .any(|place| *place == NO_PLACE)
 }
 
 fn writer_of<'a>(

@@ -24,7 +24,7 @@ use Rattle.tree_graphs.specs.Edges.{write_rows}
 use Rattle.lex_max.specs.Leaves.{after_levels, AddsProofs, AreOrderCerts, AreShown, IsBetweenProof, IsLeafOf, IsPlaceOf}
 use Rattle.tree_graphs.specs.Level.{IsGreatest}
 use Rattle.tree_graphs.specs.Simple.{at_writer as simple_writer, IsLightSum}
-use Rattle.tree_graphs.specs.Systems.{at_writer, later_systems, place_systems}
+use Rattle.tree_graphs.specs.Joint.{at_writer, later_systems, point_systems, read_and_write}
 use Rattle.tree_graphs.specs.declared.closure.Bounds.{Bounds}
 use Rattle.lex_max.specs.declared.decide.Choice.{Choice}
 use Rattle.tree_graphs.specs.declared.edges.Edge.{Edge}
@@ -35,6 +35,7 @@ use Rattle.lex_max.proofs.LeafProofs.{order_certs, plain_leaf, plain_of, proofs_
 use Rattle.lex_max.proofs.LeafProofs.{shown_first, shown_rest}
 use Rattle.tree_graphs.proofs.ProblemBounds.{asked_fits, IsKnown}
 use Rattle.tree_graphs.proofs.Just.{later_system}
+use Rattle.tree_graphs.proofs.Nodes.{light_sums}
 use Rattle.lex_max.proofs.ChosenPaths.{is_place, led_at, IsLed}
 use Rattle.lex_max.proofs.LeafParts.{adds_more_proofs, adds_no_proofs, place_taken}
 use Rattle.lex_max.proofs.LeafMeaning.{greatest_there}
@@ -147,15 +148,15 @@ pub leaf_refuted : (w : Writes) (c : Context) (place : List Form) (p0 p1 p2 p3 p
     → AddsProofs (cell_systems (read_of w) c (write_of w) place) p1 p2
     → AddsProofs (after_systems (read_of w) c (write_of w) place) p2 p3
     → AddsProofs (later_systems (read_of w) (write_of w) w.level c place) p3 p4
-    → AreRefuted (place_systems (read_of w) (write_of w) w.level c place) p4
+    → AreRefuted (point_systems (read_of w) (write_of w) w.level c place) p4
     × All IsLightSum p4
 leaf_refuted w c place p0 p1 p2 p3 p4 none a b d e =
     let o : List RowSystem = outside_systems c (write_of w) place in
     let l : List RowSystem = cell_systems (read_of w) c (write_of w) place in
     let f : List RowSystem = after_systems (read_of w) c (write_of w) place in
     let g : List RowSystem = later_systems (read_of w) (write_of w) w.level c place in
-    let whole : AddsProofs (o ++ (l ++ (f ++ g))) p0 p4 = adds_more_proofs o (l ++ (f ++ g)) p0 p1 p4 a
-    (adds_more_proofs l (f ++ g) p1 p2 p4 b (adds_more_proofs f g p2 p3 p4 d e)) in (
+    let whole : AddsProofs ((o ++ (l ++ f)) ++ g) p0 p4 = adds_more_proofs (o ++ (l ++ f)) g p0 p3 p4
+    (adds_more_proofs o (l ++ f) p0 p1 p3 a (adds_more_proofs l f p1 p2 p3 b d)) e in (
       whole.refuted [] (subst (AreRefuted []) (sym none) tt),
       whole.light (subst (All IsLightSum) (sym none) (All-nil _)),
     )
@@ -181,7 +182,7 @@ pub leaf_answer : (w : Writes) (edges : List Edge) (bounds : Bounds) (context : 
     → AreReady w edges bounds → IsContextOf w 0 context → AreChosen w edges bounds context choices
     → AreCerts context (chosen_place choices) edges certs
     → ((c : Context) → c.vars ≡ w.vars → row_forms c.vars c.rows ≡ Some context.rows
-    → AreRefuted (place_systems (read_of w) (write_of w) w.level c (chosen_place choices)) proofs)
+    → AreRefuted (point_systems (read_of w) (write_of w) w.level c (chosen_place choices)) proofs)
     → All IsLightSum proofs → place ≡ chosen_place choices → tree ≡ Writer w.write.number place proofs → (tests : ℕ)
     → IsAnswer w context tests tree
 leaf_answer w edges bounds context choices certs tree place proofs ready of chosen shown refuted light place_is tree_is
@@ -194,12 +195,12 @@ leaf_answer w edges bounds context choices certs tree place proofs ready of chos
     let level : IsSmallLevel context.vars _ w.level = level_of_place w context.vars own asked p of.vars in
     record {
       checked = λ c vars_is rows_is.
-          at_writer c tree own proofs is p.deep
-          (subst (λ n. All (λ (form : Form). length form.coefs ≡ n) own) (sym vars_is) p.over) p.within
-          (refuted c vars_is rows_is);
-      simple = simple_writer tests tree w.write.number own proofs is
+          at_writer c tree (read_and_write (read_of w) (write_of w)) own proofs is (0, omega arith, refl) p.deep
+          (subst (λ n. All (λ (form : Form). length form.coefs ≡ n) own) (sym vars_is) p.over)
           (All-weaker (IsWithin (2 ^ 40)) (IsWithin (2 ^ 48))
-          (λ f h. IsWithin-weaker (2 ^ 40) (2 ^ 48) f (omega arith) h) own p.within) light;
+          (λ f h. IsWithin-weaker (2 ^ 40) (2 ^ 48) f (omega arith) h) own p.within)
+          (refuted c vars_is rows_is) (light_sums proofs light);
+      simple = simple_writer tests tree w.write.number own proofs is p.within light;
       greatest = λ x long meets.
           subst (IsGreatest (read_of w) (write_of w) w.level x) (sym (gives-Writer x tree w.write.number own proofs is))
           (greatest_there w context edges ready.graph of own level.rows certs p.deep level.is

@@ -21,7 +21,7 @@ use Rattle.tree_graphs.specs.Asked.{depth_of_read, read_of, write_of, AreAsked, 
 use Rattle.tree_graphs.specs.Class.{writes_differences, IsInDifferenceClass}
 use Rattle.tree_graphs.specs.Level.{common_of, GivesGreatest, IsGreatest}
 use Rattle.tree_graphs.specs.Simple.{IsSimple}
-use Rattle.tree_graphs.specs.Systems.{IsCheckedFor}
+use Rattle.tree_graphs.specs.Joint.{IsCheckedFor}
 use Rattle.tree_graphs.specs.declared.writes.Writes.{Writes}
 use Rattle.tree_graphs.proofs.ProblemBounds.{are_fitting, problem_of, AreFitting}
 use Rattle.tree_graphs.proofs.Just.{checked_in, written_number}

@@ -21,9 +21,10 @@ use Rattle.tree_graphs.proofs.MadeRows.{more_made, opposite_made, taken_made}
 use Rattle.tree_graphs.specs.Asked.{read_of, write_of}
 use Rattle.tree_graphs.specs.Level.{IsGreatest}
 use Rattle.tree_graphs.specs.Simple.{at_test as simple_test}
-use Rattle.tree_graphs.specs.Systems.{at_test, IsCheckedFor}
+use Rattle.tree_graphs.specs.Joint.{at_test, IsCheckedFor}
 use Rattle.tree_graphs.specs.declared.writes.Writes.{Writes}
 use Rattle.tree_sums.specs.Parts.{IsWithin}
+use Rattle.tree_sums.proofs.Within.{IsWithin-weaker}
 use Rattle.source_tree.specs.Gives.{gives}
 use Rattle.source_tree.specs.Rows.{Take, below_zero, row_forms}
 use Rattle.source_tree.specs.Systems.{Context, test_no, test_yes}
@@ -54,7 +55,7 @@ module _ (w : Writes) (context above below : System) (form other : Form) (tests 
       → IsChecked c tree
   test_checked c vars_is rows_is =
       let here : length form.coefs ≡ c.vars = over ∙ sym vars_is in
-      at_test c tree form yes no is here
+      at_test c tree form yes no is here (IsWithin-weaker (2 ^ 48) (2 ^ 49 + 1) form (omega arith) small)
       (yes_is.checked (test_yes c form) vars_is
       (more_made c context.rows (Take form) form rows_is (taken_made c.vars form here)
       ∙ ap (λ (s : System). Some s.rows) (sym above_is)))

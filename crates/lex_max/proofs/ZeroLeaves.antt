@@ -20,7 +20,7 @@ use Rattle.tree_graphs.specs.Paths.{terms_from}
 use Rattle.tree_graphs.specs.Rounds.{IsGraphOf}
 use Rattle.tree_graphs.specs.Simple.{at_zero as simple_zero, IsLightSum}
 use Rattle.tree_graphs.proofs.Nodes.{simple_wider}
-use Rattle.tree_graphs.specs.Systems.{at_zero, none_systems}
+use Rattle.tree_graphs.specs.Joint.{at_zero, none_systems, IsSum}
 use Rattle.tree_graphs.specs.declared.edges.Edge.{Edge}
 use Rattle.tree_graphs.specs.declared.writes.Writes.{Writes}
 use Rattle.lex_max.proofs.RowMeaning.{none_where_refuted}
@@ -39,6 +39,7 @@ pub zero_answer : (w : Writes) (context : System) (edges : List Edge) (shown ts 
     → tree ≡ Zero (Sum terms ∷ []) → (tests : ℕ) → IsAnswer w context tests tree
 zero_answer w context edges shown ts terms tree graph of h terms_is is tests =
     let proof : Proof = Sum terms in
+    let sums : All IsSum (proof ∷ []) = All-cons IsSum proof [] (terms, refl) (All-nil _) in
     let light : weight terms ≤ 2 ^ 48
     = omega (
       arith,
@@ -57,7 +58,7 @@ zero_answer w context edges shown ts terms tree graph of h terms_is is tests =
           (sym terms_is)
           (none_refuted w.vars (read_of w)
           (write_of w) w.level c context.rows edges shown ts graph.asked.problem vars_is rows_is base graph.edges_are
-          (subst (λ v. IsContradiction v context.rows edges shown ts) same h))));
+          (subst (λ v. IsContradiction v context.rows edges shown ts) same h))) sums);
       simple = simple_zero tests tree (proof ∷ []) is (All-cons IsLightSum proof [] (terms, refl, light) (All-nil _));
       greatest = λ x long meets.
           subst (IsGreatest (read_of w) (write_of w) w.level x) (sym (gives-Zero x tree (proof ∷ []) is))

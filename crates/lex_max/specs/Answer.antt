@@ -5,7 +5,7 @@ use Rattle.int_polyhedra.specs.Systems.{AreOver, Meets}
 use Rattle.tree_graphs.specs.Asked.{read_of, write_of}
 use Rattle.tree_graphs.specs.Level.{IsGreatest}
 use Rattle.tree_graphs.specs.Simple.{IsSimple}
-use Rattle.tree_graphs.specs.Systems.{IsCheckedFor}
+use Rattle.tree_graphs.specs.Joint.{IsCheckedFor}
 use Rattle.tree_graphs.specs.declared.writes.Writes.{Writes}
 use Rattle.tree_sums.specs.Parts.{IsWithin}
 use Rattle.source_tree.specs.Gives.{gives}

@@ -12,25 +12,18 @@ ghost use Rattle.source_tree.specs.References.{occurrence_of};
 use crate::decide::conditions;
 use crate::zeros::zero_leaf;
 use int_polyhedra::System;
-use plain_data::Items;
 use sanlp::{Nest, common_loops};
 use source_tree::{Reference, Tree};
 use std::alloc::{AllocError, Global};
-use tree_graphs::{Closure, Graph, Writes, closure_of, cycles_of, edges_of};
+use tree_graphs::{Closure, Graph, Writes, closure_of, cycles_of, edges_of, system_of};
 
 // The reader's domain rows.
 fn root(w: &Writes) -> Result<System, AllocError>
     requires { IsAsked w.now }
     ensures { IfOk result (λ context. context ≡ root_of w.now) }
 {
-    let mut rows = Items::new(w.alloc);
-    for row in w.read.statement.rows.as_slice() {
-        rows.push(row.copy())?;
-    }
-    Ok(System {
-        vars: w.vars as u32,
-        rows,
-    })
+    let vars = w.vars as u32;
+    system_of(w.alloc, vars, w.read.statement.rows.as_slice())
 }
 
 // The writes that a read and a write of a nest name.

@@ -7,7 +7,7 @@ ghost use Rattle.tree_graphs.specs.Asked.{depth_of_write, read_of, write_of, Are
 ghost use Rattle.lex_max.specs.Choices.{chosen_place, AreCerts, AreChosen, AreReady};
 ghost use Rattle.lex_max.specs.Leaves.{after_levels, AddsProofs, AreOrderCerts, AreShown, HasAfter, IsAfterProof, IsBetweenProof, IsLeafOf};
 ghost use Rattle.tree_graphs.specs.Simple.{IsLightSum};
-ghost use Rattle.tree_graphs.specs.Systems.{later_systems, place_systems};
+ghost use Rattle.tree_graphs.specs.Joint.{later_systems, point_systems};
 ghost use Rattle.sanlp.specs.WellFormed.{form_fits};
 ghost use Rattle.source_tree.specs.Checked.{AreRefuted, IsRefuted};
 ghost use Rattle.source_tree.specs.Places.{at_place, cell_rows, differ_rows, domain_rows, same_rows};
@@ -284,7 +284,7 @@ fn leaf_proofs(
     requires certs { AreCerts context.now (chosen_place choices.now) graph.now.edges.now certs.now }
     ensures refuted { IfOk result (λ proofs. (c : Context) → c.vars ≡ w.now.vars
         → row_forms c.vars c.rows ≡ Some context.now.rows
-        → AreRefuted (place_systems (read_of w.now) (write_of w.now) w.now.level c
+        → AreRefuted (point_systems (read_of w.now) (write_of w.now) w.now.level c
         (chosen_place choices.now)) proofs) }
     ensures light { IfOk result (All IsLightSum) }
 {

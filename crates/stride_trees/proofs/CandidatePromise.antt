@@ -21,10 +21,9 @@ use Rattle.lex_max.specs.Answer.{IsAnswer, IsContextOf}
 use Rattle.tree_graphs.specs.Asked.{read_of as asked_read, write_of as asked_write, HasLevelOf}
 use Rattle.lex_max.specs.Leaves.{IsMadeFrom}
 use Rattle.tree_graphs.specs.Level.{common_of, GivesGreatest, IsGreatest}
-use Rattle.tree_graphs.specs.Systems.{IsCheckedFor}
+use Rattle.tree_graphs.specs.Joint.{IsCheckedFor}
 use Rattle.tree_graphs.specs.declared.writes.Writes.{Writes}
 use Rattle.tree_graphs.proofs.ProblemBounds.{form_is, FormFits}
-use Rattle.tree_graphs.proofs.Just.{checked_in}
 use Rattle.lex_max.proofs.ReadAndWrite.{named_number, read_is, write_has, IsReadAt}
 use Rattle.tree_graphs.proofs.MadeRows.{are_root, AreRoot}
 use Rattle.lex_max.proofs.RowValues.{met_made}
@@ -268,10 +267,10 @@ module _ (s : Strides) (strided : IsStrided s) where
       (subst (λ w'. IsCheckedFor (asked_read w) w' s.level c told) write
       (subst (λ l. IsCheckedFor (asked_read w) (asked_write w) l c told) level
       (answer.checked c (same ∙ sym w_vars) made.rows))) in
+      let both = h.checked c 3584 at checked answer.simple in
       record {
-        checked = checked_in s.nest.now (read_of s) (write_of s) s.level strided.strided.write c own
-            (h.checked c at checked);
-        cuts = h.cuts c 3584 at checked answer.simple;
+        checked = both.0;
+        cuts = both.1;
         greatest = λ x more long whole met.
             (let met' : AreMet c.rows (x ++ more) = all_met c.rows (x ++ more) met in
             let g : IsGreatest (asked_read w) (asked_write w) w.level (x ++ more) (gives told (x ++ more)) =

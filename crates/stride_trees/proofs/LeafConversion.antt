@@ -4,39 +4,40 @@
 -- leaf the systems fall into those of the place, those that the read is not before it, which are the same for the
 -- statement, and those of a write between; a Zero leaf has one of a write. Each proof is made from the one told, in
 -- order, so by induction over the tree all are refuted.
-use Rattle.std.proofs.Common.{◌≡◌, ◌==◌, ◌+◌, ◌*◌, ◌^◌, ◌≤◌, ℕ, zero, suc, pos, List, [], ◌∷◌, ◌++◌, length, map}
-use Rattle.std.proofs.Common.{Bool, true, false, cond, take, drop, refl, sym, ap, ◌∙◌, subst, arith, append_assoc, length-append}
+use Rattle.std.proofs.Common.{◌≡◌, ◌==◌, ◌+◌, ◌*◌, ◌^◌, ◌≤◌, ℕ, zero, suc, pos, negsuc, List, [], ◌∷◌, ◌++◌, length, map}
+use Rattle.std.proofs.Common.{false, cond, refl, sym, ap, ◌∙◌, subst, arith, append_assoc, length-append}
 use Rattle.std.specs.Prelude.{Some, All, int_le, nat_lt}
-use Rattle.std.specs.List.{flat_map}
-use Rattle.std.specs.Option.{option_and_then}
-use Rattle.std.proofs.lemmas.List.{length-map}
+use Rattle.std.proofs.lemmas.Bool.{and_from, eq-eqb}
+use Rattle.std.proofs.lemmas.List.{length-map, length-replicate}
 use Rattle.std.proofs.lemmas.List.Elements.{All-nil, All-cons, All-append, All-head, All-tail, All-weaker}
 use Rattle.sanlp.proofs.Precedence.{common_loops-same}
 use Rattle.affine_core.specs.declared.form.Form.{Form}
-use Rattle.affine_core.specs.Affine.{form_at}
+use Rattle.affine_core.specs.Affine.{constant_form, form_at, form_product}
+use Rattle.affine_core.proofs.Linear.{length-sums}
 use Rattle.int_polyhedra.specs.declared.system.Proof.{Proof}
 use Rattle.tree_graphs.specs.Level.{common_of}
 use Rattle.tree_graphs.specs.Simple.{IsLightSum, IsSimple}
-use Rattle.tree_graphs.specs.Systems.{at_test, at_writer, at_zero, later_systems, none_systems, place_systems, IsCheckedFor}
-use Rattle.tree_graphs.proofs.Just.{later_system, none_system}
+use Rattle.tree_graphs.specs.Joint.{head_systems, later_systems, none_systems, point_systems, read_and_write, IsCheckedFor}
+use Rattle.tree_graphs.proofs.Just.{later_system, none_in, none_system, point_in}
 use Rattle.tree_graphs.proofs.OrderEdges.{length_variables}
 use Rattle.tree_graphs.proofs.EdgeSums.{over_append}
-use Rattle.tree_graphs.proofs.RowBounds.{forms_append, small_append, small_equal, small_less}
+use Rattle.tree_graphs.proofs.MadeRows.{more_made, opposite_made, taken_made}
+use Rattle.tree_graphs.proofs.Small.{negative_over, opposite_fits, opposite_form, opposite_within}
+use Rattle.tree_graphs.proofs.RowBounds.{small_append, small_equal, small_less}
 use Rattle.tree_graphs.proofs.RowBounds.{AreSmall, AreTaken, IsSmallLevel}
 use Rattle.tree_graphs.proofs.Nodes.{checked_point, checked_test, checked_zero, simple_both, simple_none}
-use Rattle.tree_graphs.proofs.Nodes.{simple_point, AreBothChecked, AreBothSimple, IsCheckedPoint}
+use Rattle.tree_graphs.proofs.Nodes.{simple_point, AreBothChecked, AreBothSimple, IsCheckedPoint, IsSimplePoint}
 use Rattle.plain_data.proofs.Tests.{ltb-same}
 use Rattle.plain_data.proofs.Lists.{slice_get-append_some}
 use Rattle.tree_sums.specs.Parts.{IsWithin}
 use Rattle.tree_sums.proofs.Within.{IsWithin-weaker}
-use Rattle.tree_sums.proofs.RowParts.{AreOver-row_forms}
-use Rattle.source_tree.specs.Checked.{AreRefuted, HaveVariables}
+use Rattle.source_tree.specs.Checked.{at_test as test_in, AreRefuted, HaveVariables}
 use Rattle.source_tree.specs.Gives.{gives}
 use Rattle.source_tree.specs.Places.{at_place, before_rows, differ_rows, order_rows}
 use Rattle.source_tree.specs.Rows.{RowExpr, RowSystem, Take, below_zero, equal_rows, minus, one_less, row_forms}
-use Rattle.source_tree.specs.Systems.{Context, Occurrence, after_systems, cell_systems, chosen_levels, just, more_rows}
+use Rattle.source_tree.specs.Systems.{Context, Occurrence, after_systems, cell_systems, more_rows}
 use Rattle.source_tree.specs.Systems.{outside_systems}
-use Rattle.source_tree.specs.Systems.{reader_place, test_no, test_yes, with_rows, with_write_at, writer_place}
+use Rattle.source_tree.specs.Systems.{reader_place, test_no, test_yes, with_rows, writer_place}
 use Rattle.source_tree.specs.declared.tree.Tree.{Tree}
 use Rattle.source_tree.specs.declared.tree.Tree.TheVariants.{Writer, Zero}
 use Rattle.source_tree.specs.declared.tree.Tree.TheViews.{Test}
@@ -48,11 +49,10 @@ use Rattle.stride_trees.specs.Contexts.{outside_cell_systems, own_system, told_s
 use Rattle.stride_trees.specs.Contexts.{AreOrders, AreTestsIn, IsConvertedTree, IsPlaceIn, IsTestedContext}
 use Rattle.stride_trees.specs.Problem.{problem_write, told_read, told_write}
 use Rattle.tree_cuts.specs.Sources.{divided_form, next_place, places_behind}
-use Rattle.stride_trees.specs.Strides.{depth_of_read, depth_of_write, read_of, root_of, write_of, IsStrided}
+use Rattle.stride_trees.specs.Strides.{depth_of_read, depth_of_write, read_of, root_of, write_of, IsSmallContext, IsStrided}
 use Rattle.stride_trees.specs.declared.strides.Strides.{Strides}
 use Rattle.stride_trees.proofs.ProblemBounds.{are_fitting, AreFitting}
 use Rattle.stride_trees.proofs.Lists.{forms_count}
-use Rattle.stride_trees.proofs.RowReach.{below_reached, reached_farther, reached_made, taken_reached, IsMadeWithin}
 use Rattle.stride_trees.proofs.LevelOrders as of_level
 use Rattle.stride_trees.proofs.LevelOrders.{made_small}
 use Rattle.stride_trees.proofs.SystemConversion.{reads_count}
@@ -73,42 +73,61 @@ more_tests c rows depth root places (write ∷ writes) (read ∷ reads) h = (
   more_tests c rows depth root (places_behind write places) writes reads h.1,
 )
 
+small_more : (here : ℕ) (c : Context) (e : RowExpr) (f : Form) → IsSmallContext c here
+    → ((rows : List Form) → row_forms c.vars c.rows ≡ Some rows
+    → row_forms c.vars (c.rows ++ e ∷ []) ≡ Some (rows ++ f ∷ []))
+    → length f.coefs ≡ c.vars → IsWithin (2 ^ 50) f → IsSmallContext (more_rows c (e ∷ [])) (here + 1)
+small_more here c e f h made over within = record {
+  rows = h.rows ++ f ∷ [];
+  made = made h.rows h.made;
+  count = omega (arith, length-append h.rows (f ∷ []), h.count);
+  over = over_append c.vars h.rows (f ∷ []) h.over (and_from _ _ (eq-eqb (length f.coefs) c.vars over) refl);
+  within = All-append (IsWithin (2 ^ 50)) h.rows (f ∷ []) h.within
+      (All-cons (IsWithin (2 ^ 50)) f [] within (All-nil _));
+}
+
+pub small_yes : (here : ℕ) (c : Context) (form : Form) → IsSmallContext c here → length form.coefs ≡ c.vars
+    → IsWithin (2 ^ 49 + 1) form → IsSmallContext (test_yes c form) (here + 1)
+small_yes here c form h over within =
+    small_more here c (Take form) form h
+    (λ rows made. more_made c rows (Take form) form made (taken_made c.vars form over)) over
+    (IsWithin-weaker (2 ^ 49 + 1) (2 ^ 50) form (omega arith) within)
+
+pub small_no : (here : ℕ) (c : Context) (form : Form) → IsSmallContext c here → length form.coefs ≡ c.vars
+    → IsWithin (2 ^ 49 + 1) form → IsSmallContext (test_no c form) (here + 1)
+small_no here c form h over within =
+    let other : Form = opposite_form form in
+    small_more here c (below_zero (Take form)) other h
+    (λ rows made. more_made c rows (below_zero (Take form)) other made
+    (opposite_made c.vars form other over
+    (opposite_fits form (IsWithin-weaker (2 ^ 49 + 1) (2 ^ 60) form (omega arith) within))))
+    (opposite_over form ∙ over)
+    (IsWithin-weaker (2 ^ 49 + 1 + 1) (2 ^ 50) other (omega arith) (opposite_within (2 ^ 49 + 1) form within)) where
+      opposite_over : (f : Form) → length (opposite_form f).coefs ≡ length f.coefs
+      opposite_over f =
+          let constant : Form = constant_form (length f.coefs) (negsuc 0) in
+          let long : length constant.coefs ≡ length f.coefs = length-replicate (length f.coefs) (pos 0) in
+          length-sums (form_product (negsuc 0) f).coefs constant.coefs (omega (arith, negative_over f, long))
+          ∙ negative_over f
+
 tested_more : (s : Strides) (places : List ℕ) (here : ℕ) (c : Context) (e : RowExpr) → IsTestedContext s places here c
-    → IsMadeWithin c.vars (2 ^ 50) e → IsTestedContext s places (here + 1) (more_rows c (e ∷ []))
-tested_more s places here c e h made =
-    let old : List Form = h.small.rows in
-    let new : List Form = made.row ∷ [] in
-    let one : row_forms c.vars (e ∷ []) ≡ Some new =
-    ap (option_and_then (λ row. Some (row ∷ []))) made.is in
-    record {
-      small = record {
-        rows = old ++ new;
-        made = forms_append c.vars c.rows (e ∷ []) old new h.small.made one;
-        count = omega (arith, length-append old new, h.small.count);
-        over = over_append c.vars old new h.small.over (AreOver-row_forms c.vars (e ∷ []) new one);
-        within = All-append (IsWithin (2 ^ 50)) old new h.small.within
-            (All-cons (IsWithin (2 ^ 50)) made.row [] made.within (All-nil _));
-      };
-      reader = h.reader;
-      tests = more_tests c (e ∷ []) (depth_of_read s) (root_of s) places (write_of s).access.subscripts
-          (read_of s).access.subscripts h.tests;
-    }
+    → IsSmallContext (more_rows c (e ∷ [])) (here + 1) → IsTestedContext s places (here + 1) (more_rows c (e ∷ []))
+tested_more s places here c e h small = record {
+  small = small;
+  reader = h.reader;
+  tests = more_tests c (e ∷ []) (depth_of_read s) (root_of s) places (write_of s).access.subscripts
+      (read_of s).access.subscripts h.tests;
+}
 
 pub tested_yes : (s : Strides) (places : List ℕ) (here : ℕ) (c : Context) (form : Form) → IsTestedContext s places here c
-    → length form.coefs ≡ c.vars → IsWithin (2 ^ 48) form → IsTestedContext s places (here + 1) (test_yes c form)
+    → length form.coefs ≡ c.vars → IsWithin (2 ^ 49 + 1) form → IsTestedContext s places (here + 1) (test_yes c form)
 tested_yes s places here c form h over within =
-    tested_more s places here c (Take form) h
-    (reached_made c.vars (2 ^ 50) (2 ^ 50) (Take form) (omega arith) (taken_reached c.vars (2 ^ 50) form
-    (record { short = omega (arith, over); within = IsWithin-weaker (2 ^ 48) (2 ^ 50) form (omega arith) within })))
+    tested_more s places here c (Take form) h (small_yes here c form h.small over within)
 
 pub tested_no : (s : Strides) (places : List ℕ) (here : ℕ) (c : Context) (form : Form) → IsTestedContext s places here c
-    → length form.coefs ≡ c.vars → IsWithin (2 ^ 48) form → IsTestedContext s places (here + 1) (test_no c form)
+    → length form.coefs ≡ c.vars → IsWithin (2 ^ 49 + 1) form → IsTestedContext s places (here + 1) (test_no c form)
 tested_no s places here c form h over within =
-    tested_more s places here c (below_zero (Take form)) h
-    (reached_made c.vars (2 ^ 48) (2 ^ 50) (below_zero (Take form)) (omega arith)
-    (reached_farther c.vars (2 ^ 48) (2 ^ 48 + 2 ^ 48 + 2 ^ 48) (2 ^ 50) (below_zero (Take form)) (omega arith)
-    (below_reached c.vars (2 ^ 48) (2 ^ 48) (Take form) (omega arith)
-    (taken_reached c.vars (2 ^ 48) form (record { short = omega (arith, over); within = within })))))
+    tested_more s places here c (below_zero (Take form)) h (small_no here c form h.small over within)
 
 -- Orders
 
@@ -181,6 +200,11 @@ sums_are_cuts order (system ∷ systems) (proof ∷ proofs) h light =
       sums_are_cuts order systems proofs h.1 (All-tail IsLightSum proof proofs light),
     )
 
+-- the systems of a point, those of its domain and cell apart
+pub head_apart : (a b d e : List RowSystem) → (a ++ (b ++ d)) ++ e ≡ (a ++ b) ++ (d ++ e)
+head_apart a b d e =
+    append_assoc a (b ++ d) e ∙ ap (λ xs. a ++ xs) (append_assoc b d e) ∙ sym (append_assoc a b (d ++ e))
+
 -- proofs in two parts, as their systems
 pub refuted_parts : (first second : List RowSystem) (ps qs : List Proof) → length ps ≡ length first
     → AreRefuted (first ++ second) (ps ++ qs) → AreRefuted first ps × AreRefuted second qs
@@ -196,7 +220,7 @@ all_parts P (p ∷ ps) qs h =
     let rest = all_parts P ps qs (All-tail P p (ps ++ qs) h) in
     (All-cons P p ps (All-head P p (ps ++ qs) h) rest.0, rest.1)
 
-pub length-differ_rows : (writes reads place : List Form) → length writes ≡ length reads
+length-differ_rows : (writes reads place : List Form) → length writes ≡ length reads
     → length (differ_rows writes reads place) ≡ 2 * length writes
 length-differ_rows [] reads place e = refl
 length-differ_rows (write ∷ writes) [] place e = absurd (omega arith)
@@ -217,6 +241,28 @@ place_taken c vars (f ∷ place) le over within =
 
 -- Leaves
 
+-- how many proofs tell that a place is in the domain and writes the read's cell
+pub place_count : (s : Strides) → IsStrided s → (places : List ℕ) (c : Context) (place : List Form)
+    → length (outside_cell_systems (told_read c.vars places (read_of s) (write_of s)) (told_write (write_of s)) c place)
+    ≡ length s.write.statement.now.rows + 2 * length s.write.access.now.subscripts
+place_count s strided places c place =
+    let r : Occurrence = read_of s in
+    let w : Occurrence = write_of s in
+    let r' : Occurrence = told_read c.vars places r w in
+    let w' : Occurrence = told_write w in
+    let fits : AreFitting s.nest.now r w s.level = are_fitting s.nest.now r w s.level strided.strided in
+    omega (
+      arith,
+      length-append (outside_systems c w' place) (cell_systems r' c w' place),
+      length-map w'.statement.rows (λ row. with_rows c (below_zero (at_place row place) ∷ [])),
+      length-map w.statement.rows divided_form,
+      length-map (differ_rows w'.access.subscripts r'.access.subscripts place) (λ row. with_rows c (row ∷ [])),
+      length-differ_rows w'.access.subscripts r'.access.subscripts place
+          (length-map w.access.subscripts problem_write
+          ∙ reads_count c.vars (length r.statement.loops) places w.access.subscripts r.access.subscripts fits.even),
+      length-map w.access.subscripts problem_write,
+    )
+
 module _ (s : Strides) (strided : IsStrided s) (places : List ℕ) (here : ℕ) where
   abbrev r : Occurrence
   r = read_of s
@@ -229,9 +275,6 @@ module _ (s : Strides) (strided : IsStrided s) (places : List ℕ) (here : ℕ) 
 
   abbrev loops : ℕ
   loops = depth_of_write s
-
-  fits : AreFitting s.nest.now r w p
-  fits = are_fitting s.nest.now r w p strided.strided
 
   abbrev cells : ℕ
   cells = length s.write.statement.now.rows + 2 * length s.write.access.now.subscripts
@@ -261,7 +304,15 @@ module _ (s : Strides) (strided : IsStrided s) (places : List ℕ) (here : ℕ) 
     level_long : length level.rows ≡ 2 * s.level + cond (nat_lt s.level s.common) 1 0
     level_long = of_level.level_long s strided c at.reader
 
-    -- a Zero leaf
+    -- a Zero leaf has one proof
+    told_one : (told : List Proof) → AreRefuted (none_systems r' w' p c) told
+        → AreRefuted (told_system s places c (level.rows ++ []) ∷ []) told
+    told_one told = subst (λ systems. AreRefuted systems told) (none_system r' w' p c level.rows level.is)
+
+    pub zero_one : (told : List Proof) → AreRefuted (none_systems r' w' p c) told → length told ≤ 1
+    zero_one told h =
+        omega (arith, length-AreRefuted (told_system s places c (level.rows ++ []) ∷ []) told (told_one told h))
+
     module _ (more : ℕ) (told new : List Proof) (count : more ≡ 2 * s.level + cond (nat_lt s.level s.common) 1 0)
         (h : Between more told [] new) where
       one_order : AreOrders vars more level.rows ([] ∷ [])
@@ -274,21 +325,18 @@ module _ (s : Strides) (strided : IsStrided s) (places : List ℕ) (here : ℕ) 
           (told_system s places c (level.rows ++ []) ∷ []) (own_system s c (level.rows ++ []) ∷ []) told [] new
       zero_added = h c level.rows ([] ∷ []) at one_order
 
-      told_one : AreRefuted (none_systems r' w' p c) told → AreRefuted (told_system s places c (level.rows ++ []) ∷ []) told
-      told_one refuted = subst (λ systems. AreRefuted systems told) (none_system r' w' p c level.rows level.is) refuted
-
       pub zero_refuted : AreRefuted (none_systems r' w' p c) told → AreRefuted (none_systems r w p c) new
       zero_refuted refuted =
           subst (λ systems. AreRefuted systems new) (sym (none_system r w p c level.rows level.is))
           (subst (AreRefuted (own_system s c (level.rows ++ []) ∷ [])) (sym zero_added.is)
-          (zero_added.refuted (told_one refuted)))
+          (zero_added.refuted (told_one told refuted)))
 
       pub zero_cuts : AreRefuted (none_systems r' w' p c) told → All IsLightSum told → AreNoneCutSums r w p c new
       zero_cuts refuted light =
           subst (λ systems. AreCutSums (order_number r w c) systems new)
           (sym (none_system r w p c level.rows level.is))
           (subst (AreCutSums (order_number r w c) (own_system s c (level.rows ++ []) ∷ [])) (sym zero_added.is)
-          (zero_added.cuts tt (told_one refuted) light))
+          (zero_added.cuts tt (told_one told refuted) light))
 
     -- a Writer leaf
     module _ (place : List Form) (deep : length place ≡ loops) where
@@ -313,40 +361,26 @@ module _ (s : Strides) (strided : IsStrided s) (places : List ℕ) (here : ℕ) 
       later_is : later_systems r w p c place ≡ map (λ rows. own_system s c (level.rows ++ rows)) further
       later_is = later_system r w p c level.rows place level.is
 
-      place_count : length (outside_cell_systems r' w' c place) ≡ cells
-      place_count = omega (
-        arith,
-        length-append (outside_systems c w' place) (cell_systems r' c w' place),
-        length-map w'.statement.rows (λ row. with_rows c (below_zero (at_place row place) ∷ [])),
-        length-map w.statement.rows divided_form,
-        length-map (differ_rows w'.access.subscripts r'.access.subscripts place) (λ row. with_rows c (row ∷ [])),
-        length-differ_rows w'.access.subscripts r'.access.subscripts place
-            (length-map w.access.subscripts problem_write
-            ∙ reads_count c.vars (length r.statement.loops) places w.access.subscripts r.access.subscripts fits.even),
-        length-map w.access.subscripts problem_write,
-      )
-
       later_count : length (later_systems r' w' p c place) ≡ loops
       later_count = ap length later_is' ∙ length-map further (λ rows. told_system s places c (level.rows ++ rows))
           ∙ further_count
 
-      pub told_count : (told : List Proof) → AreRefuted (place_systems r' w' p c place) told
+      pub told_count : (told : List Proof) → AreRefuted (point_systems r' w' p c place) told
           → length told ≡ cells + (length (after_systems r c w place) + loops)
       told_count told h = omega (
         arith,
-        length-AreRefuted (place_systems r' w' p c place) told h,
-        length-append (outside_systems c w' place)
-            (cell_systems r' c w' place ++ (after_systems r' c w' place ++ later_systems r' w' p c place)),
-        length-append (cell_systems r' c w' place) (after_systems r' c w' place ++ later_systems r' w' p c place),
-        length-append (after_systems r' c w' place) (later_systems r' w' p c place),
+        length-AreRefuted (point_systems r' w' p c place) told h,
+        length-append (head_systems (read_and_write r' w') place c) (later_systems r' w' p c place),
+        length-append (outside_systems c w' place) (cell_systems r' c w' place ++ after_systems r' c w' place),
+        length-append (cell_systems r' c w' place) (after_systems r' c w' place),
         length-append (outside_systems c w' place) (cell_systems r' c w' place),
-        place_count,
+        place_count s strided places c place,
         later_count,
       )
 
       -- the proofs fall into those of the three kinds
       kinds : (first middle last : List Proof) → length first ≡ cells → length last ≡ loops
-          → AreRefuted (place_systems r' w' p c place) (first ++ (middle ++ last))
+          → AreRefuted (point_systems r' w' p c place) (first ++ (middle ++ last))
           → AreRefuted (outside_cell_systems r' w' c place) first × AreRefuted (after_systems r c w place) middle
           × AreRefuted later' last
       kinds first middle last a b h =
@@ -354,9 +388,9 @@ module _ (s : Strides) (strided : IsStrided s) (places : List ℕ) (here : ℕ) 
           let later : List RowSystem = later_systems r' w' p c place in
           let whole : AreRefuted (outside_cell_systems r' w' c place ++ (after ++ later)) (first ++ (middle ++ last))
           = subst (λ systems. AreRefuted systems (first ++ (middle ++ last)))
-          (sym (append_assoc (outside_systems c w' place) (cell_systems r' c w' place) (after ++ later))) h in
+          (head_apart (outside_systems c w' place) (cell_systems r' c w' place) after later) h in
           let x = refuted_parts (outside_cell_systems r' w' c place) (after ++ later) first (middle ++ last)
-          (a ∙ sym place_count) whole in
+          (a ∙ sym (place_count s strided places c place)) whole in
           let count : length middle ≡ length after = omega (
             arith,
             told_count (first ++ (middle ++ last)) h,
@@ -387,8 +421,8 @@ module _ (s : Strides) (strided : IsStrided s) (places : List ℕ) (here : ℕ) 
 
         pub writer_refuted : (AreRefuted (outside_cell_systems r' w' c place) first
             → AreRefuted (outside_cell_systems r w c place) proofs)
-            → AreRefuted (place_systems r' w' p c place) (first ++ (middle ++ last))
-            → AreRefuted (place_systems r w p c place) new
+            → AreRefuted (point_systems r' w' p c place) (first ++ (middle ++ last))
+            → AreRefuted (point_systems r w p c place) new
         writer_refuted of_place refuted =
             let k = kinds first middle last first_is last_is refuted in
             let after : List RowSystem = after_systems r c w place in
@@ -396,14 +430,14 @@ module _ (s : Strides) (strided : IsStrided s) (places : List ℕ) (here : ℕ) 
             let of_later : AreRefuted later added.added =
             subst (λ systems. AreRefuted systems added.added) (sym later_is) (added.refuted k.2) in
             subst (λ systems. AreRefuted systems new)
-            (append_assoc (outside_systems c w place) (cell_systems r c w place) (after ++ later))
+            (sym (head_apart (outside_systems c w place) (cell_systems r c w place) after later))
             (subst (AreRefuted (outside_cell_systems r w c place ++ (after ++ later))) (sym new_is)
             (AreRefuted-append (outside_cell_systems r w c place) (after ++ later) proofs (middle ++ added.added) (of_place k.0)
             (AreRefuted-append after later middle added.added k.1 of_later)))
 
         pub writer_cuts : (AreRefuted (outside_cell_systems r' w' c place) first → All IsLightSum first
             → AreCutSums (here + 1) (outside_cell_systems r w c place) proofs)
-            → AreRefuted (place_systems r' w' p c place) (first ++ (middle ++ last))
+            → AreRefuted (point_systems r' w' p c place) (first ++ (middle ++ last))
             → All IsLightSum (first ++ (middle ++ last)) → AreWriterCutSums r w p c place new
         writer_cuts of_place refuted light =
             let k = kinds first middle last first_is last_is refuted in
@@ -423,65 +457,30 @@ module _ (s : Strides) (strided : IsStrided s) (places : List ℕ) (here : ℕ) 
                   (added.cuts tt k.2 m.1);
             }
 
--- a Zero leaf has one proof
-pub zero_one : (s : Strides) → IsStrided s → (places : List ℕ) (c : Context) (told : List Proof)
-    → AreRefuted (none_systems (told_read c.vars places (read_of s) (write_of s)) (told_write (write_of s)) s.level c) told
-    → length told ≤ 1
-zero_one s strided places c told h = omega (
-  arith,
-  length-AreRefuted (none_systems (told_read c.vars places (read_of s) (write_of s)) (told_write (write_of s)) s.level c) told h,
-  one_none (told_read c.vars places (read_of s) (write_of s)) (told_write (write_of s)) s.level c,
-) where
-  one_of : {X : Type 0} (n : ℕ) (xs : List X) → length (take n xs) ≤ n
-  one_of zero xs = omega arith
-  one_of (suc n) [] = omega arith
-  one_of (suc n) (x ∷ xs) = omega (arith, one_of n xs)
-
-  flat_one : {X : Type 0} (f : X → List RowSystem) (xs : List X) → length xs ≤ 1 → ((x : X) → length (f x) ≤ 1)
-      → length (flat_map f xs) ≤ 1
-  flat_one f [] le h = omega arith
-  flat_one f (x ∷ []) le h = omega (arith, length-append (f x) [], h x)
-  flat_one f (x ∷ (y ∷ xs)) le h = absurd (omega (arith, le))
-
-  one_none : (r w : Occurrence) (p : ℕ) (c : Context) → length (none_systems r w p c) ≤ 1
-  one_none r w p c =
-      flat_one (λ level. map (λ q. with_rows (with_write_at r c w) (level ++ q)) ([] ∷ []))
-      (chosen_levels (just w.number p) w.number
-      (before_rows w.number w.statement (writer_place c w) r.number r.statement (reader_place r)))
-      (go (w.number == w.number)) (λ level. omega arith) where
-        go : (b : Bool) → length (cond b (take 1 (drop p (before_rows w.number w.statement (writer_place c w) r.number
-            r.statement (reader_place r)))) []) ≤ 1
-        go true = one_of 1 (drop p (before_rows w.number w.statement (writer_place c w) r.number r.statement (reader_place r)))
-        go false = omega arith
-
 -- Trees
+
+-- a tree that is checked over quotients
+abbrev pub IsToldIn : Strides → List ℕ → ℕ → Context → Tree → Type 0
+IsToldIn s places vars = IsCheckedFor (told_read vars places (read_of s) (write_of s)) (told_write (write_of s)) s.level
 
 -- a Test
 pub test_converted : (s : Strides) (places : List ℕ) (here : ℕ) (form : Form) (upper lower above below own : Tree)
     → IsConvertedTree s places (here + 1) upper above → IsConvertedTree s places (here + 1) lower below
-    → own ≡ Test form above below
-    → (m : ℕ) → IsSimple m (Test form upper lower) → IsConvertedTree s places here (Test form upper lower) own
-test_converted s places here form upper lower above below own a b is m simple =
-    let within : IsWithin (2 ^ 48) form = (simple_both m (Test form upper lower) form upper lower simple refl).within in
-    let told : Context → Tree → Type 0 = λ c tree. IsCheckedFor (told_read c.vars places (read_of s) (write_of s))
-    (told_write (write_of s)) s.level c tree in
-    let parts : (c : Context) → told c (Test form upper lower)
-    → AreBothChecked (told_read c.vars places (read_of s) (write_of s)) (told_write (write_of s)) s.level c form upper lower
-    = λ c h. checked_test (told_read c.vars places (read_of s) (write_of s)) (told_write (write_of s)) s.level c
-    (Test form upper lower) form upper lower h refl in
+    → own ≡ Test form above below → IsConvertedTree s places here (Test form upper lower) own
+test_converted s places here form upper lower above below own a b is =
     record {
-      checked = λ c t h.
-          (let k = parts c h in
-          at_test c own form above below is k.over
-          (a.checked (test_yes c form) (tested_yes s places here c form t k.over within) k.above)
-          (b.checked (test_no c form) (tested_no s places here c form t k.over within) k.below));
-      cuts = λ c tests t h simple.
-          (let k = parts c h in
+      checked = λ c tests t h simple.
+          (let k : AreBothChecked (IsToldIn s places c.vars) c form upper lower =
+          checked_test c (Test form upper lower) form upper lower h refl in
           let l : AreBothSimple tests form upper lower = simple_both tests (Test form upper lower) form upper lower simple refl in
-          subst (λ n. IsCutTree (read_of s) (write_of s) s.level n c own) (sym l.less)
-          (cut_test l.fewer c own form above below is l.within
-          (a.cuts (test_yes c form) l.fewer (tested_yes s places here c form t k.over within) k.above l.above)
-          (b.cuts (test_no c form) l.fewer (tested_no s places here c form t k.over within) k.below l.below)));
+          let yes = a.checked (test_yes c form) l.fewer (tested_yes s places here c form t k.over k.within) k.above
+          l.above in
+          let no = b.checked (test_no c form) l.fewer (tested_no s places here c form t k.over k.within) k.below
+          l.below in (
+            test_in c own form above below is k.over yes.0 no.0,
+            subst (λ n. IsCutTree (read_of s) (write_of s) s.level n c own) (sym l.less)
+                (cut_test l.fewer c own form above below is l.within yes.1 no.1),
+          ));
       same = λ x. gives-Test x own form above below is
           ∙ ap (λ f. cond (int_le (pos 0) (form_at form x)) f (gives below x)) (a.same x)
           ∙ ap (λ f. cond (int_le (pos 0) (form_at form x)) (gives upper x) f) (b.same x)
@@ -494,10 +493,8 @@ pub record AreBranches (s : Strides) (places : List ℕ) (here : ℕ) (upper low
   pub second : Context
   pub first_at : IsTestedContext s places (here + 1) first
   pub second_at : IsTestedContext s places (here + 1) second
-  pub first_checked : IsCheckedFor (told_read first.vars places (read_of s) (write_of s)) (told_write (write_of s)) s.level
-      first upper
-  pub second_checked : IsCheckedFor (told_read second.vars places (read_of s) (write_of s)) (told_write (write_of s)) s.level
-      second lower
+  pub first_checked : IsToldIn s places first.vars first upper
+  pub second_checked : IsToldIn s places second.vars second lower
   pub fewer : ℕ
   pub few : here + 1 + fewer ≤ 8192
   pub first_simple : IsSimple fewer upper
@@ -505,18 +502,15 @@ pub record AreBranches (s : Strides) (places : List ℕ) (here : ℕ) (upper low
 
 pub branches_made : (s : Strides) (places : List ℕ) (here : ℕ) (c : Context) (m : ℕ) (tree : Tree) (form : Form)
     (upper lower : Tree) → tree ≡ Test form upper lower → IsTestedContext s places here c
-    → IsCheckedFor (told_read c.vars places (read_of s) (write_of s)) (told_write (write_of s)) s.level c tree
-    → here + m ≤ 8192 → IsSimple m tree → AreBranches s places here upper lower
+    → IsToldIn s places c.vars c tree → here + m ≤ 8192 → IsSimple m tree → AreBranches s places here upper lower
 branches_made s places here c m tree form upper lower is at h le simple =
-    let k : AreBothChecked (told_read c.vars places (read_of s) (write_of s)) (told_write (write_of s)) s.level c form upper
-    lower = checked_test (told_read c.vars places (read_of s) (write_of s)) (told_write (write_of s)) s.level c tree form upper
-    lower h is in
+    let k : AreBothChecked (IsToldIn s places c.vars) c form upper lower = checked_test c tree form upper lower h is in
     let l : AreBothSimple m form upper lower = simple_both m tree form upper lower simple is in
     record {
       first = test_yes c form;
       second = test_no c form;
-      first_at = tested_yes s places here c form at k.over l.within;
-      second_at = tested_no s places here c form at k.over l.within;
+      first_at = tested_yes s places here c form at k.over k.within;
+      second_at = tested_no s places here c form at k.over k.within;
       first_checked = k.above;
       second_checked = k.below;
       fewer = l.fewer;
@@ -525,14 +519,13 @@ branches_made s places here c m tree form upper lower is at h le simple =
       second_simple = l.below;
     }
 
-pub test_made : (s : Strides) (places : List ℕ) (here : ℕ) (tree : Tree) (form own_form : Form)
-    (upper lower above below own : Tree) (m : ℕ) → tree ≡ Test form upper lower → own_form ≡ form
+pub test_made : (s : Strides) (places : List ℕ) (here : ℕ) (tree : Tree) (form : Form)
+    (upper lower above below own : Tree) → tree ≡ Test form upper lower
     → IsConvertedTree s places (here + 1) upper above → IsConvertedTree s places (here + 1) lower below
-    → own ≡ Test own_form above below → IsSimple m tree → IsConvertedTree s places here tree own
-test_made s places here tree form own_form upper lower above below own m is same a b own_is simple =
+    → own ≡ Test form above below → IsConvertedTree s places here tree own
+test_made s places here tree form upper lower above below own is a b own_is =
     subst (λ tree. IsConvertedTree s places here tree own) (sym is)
-    (test_converted s places here form upper lower above below own a b
-    (own_is ∙ ap (λ form. Test form above below) same) m (subst (IsSimple m) is simple))
+    (test_converted s places here form upper lower above below own a b own_is)
 
 -- a place of a checked leaf
 pub leaf_place : (c : Context) (depth : ℕ) (place : List Form) → length place ≡ depth → HaveVariables c.vars place
@@ -544,43 +537,41 @@ leaf_place c depth place deep over within = record {
 }
 
 -- a Writer leaf
-pub writer_converted : (s : Strides) (places : List ℕ) (here n : ℕ) (place own_place : List Form) (told proofs : List Proof)
-    (own : Tree) → own_place ≡ place → own ≡ Writer n own_place proofs
+pub writer_converted : (s : Strides) → IsStrided s → (places : List ℕ) (here n : ℕ) (place own_place : List Form)
+    (told proofs : List Proof) (own : Tree) → own_place ≡ place → own ≡ Writer n own_place proofs
     → ((c : Context) (place : List Form) → IsTestedContext s places here c → IsPlaceIn c (depth_of_write s) place
     → All (IsWithin (2 ^ 40)) place
-    → AreRefuted (place_systems (told_read c.vars places (read_of s) (write_of s)) (told_write (write_of s)) s.level c place)
-    told
-    → AreRefuted (place_systems (read_of s) (write_of s) s.level c place) proofs)
+    → AreRefuted (point_systems (told_read c.vars places (read_of s) (write_of s)) (told_write (write_of s)) s.level c
+    place) told
+    → AreRefuted (point_systems (read_of s) (write_of s) s.level c place) proofs)
     → ((c : Context) (place : List Form) → IsTestedContext s places here c → IsPlaceIn c (depth_of_write s) place
     → All (IsWithin (2 ^ 40)) place
-    → AreRefuted (place_systems (told_read c.vars places (read_of s) (write_of s)) (told_write (write_of s)) s.level c place)
-    told → All IsLightSum told
+    → AreRefuted (point_systems (told_read c.vars places (read_of s) (write_of s)) (told_write (write_of s)) s.level c
+    place) told → All IsLightSum told
     → AreWriterCutSums (read_of s) (write_of s) s.level c place proofs)
     → IsConvertedTree s places here (Writer n place told) own
-writer_converted s places here n place own_place told proofs own forms is refuted cuts =
+writer_converted s strided places here n place own_place told proofs own forms is refuted cuts =
     let own_is : own ≡ Writer n place proofs = is ∙ ap (λ place. Writer n place proofs) forms in
-    let parts : (c : Context) → IsCheckedFor (told_read c.vars places (read_of s) (write_of s)) (told_write (write_of s))
-    s.level c (Writer n place told)
-    → IsCheckedPoint (told_read c.vars places (read_of s) (write_of s)) (told_write (write_of s)) s.level c n place told
-    = λ c h. checked_point (told_read c.vars places (read_of s) (write_of s)) (told_write (write_of s)) s.level c
-    (Writer n place told) n place told h refl in
     record {
-      checked = λ c t h.
-          (let k = parts c h in
-          at_writer c own place proofs (own_is ∙ ap (λ n. Writer n place proofs) k.number) k.deep k.over k.within
-          (refuted c place t (leaf_place c (depth_of_write s) place k.deep k.over k.within) k.within k.refuted));
-      cuts = λ c tests t h simple.
-          (let k = parts c h in
-          cut_writer tests c own n place proofs own_is
-          (All-weaker (IsWithin (2 ^ 40)) (IsWithin (2 ^ 48)) (λ f k. IsWithin-weaker (2 ^ 40) (2 ^ 48) f (omega arith) k) place
-          k.within)
-          (cuts c place t (leaf_place c (depth_of_write s) place k.deep k.over k.within) k.within k.refuted
-          (simple_point tests (Writer n place told) n place told simple refl).light));
+      checked = λ c tests t h simple.
+          (let k : IsCheckedPoint (told_read c.vars places (read_of s) (write_of s)) (told_write (write_of s)) s.level c n
+          place told
+          = checked_point (told_read c.vars places (read_of s) (write_of s)) (told_write (write_of s)) s.level c
+          (Writer n place told) n place told h refl in
+          let l : IsSimplePoint place told = simple_point tests (Writer n place told) n place told simple refl in
+          let at : IsPlaceIn c (depth_of_write s) place =
+          leaf_place c (depth_of_write s) place k.deep k.over l.within in (
+            point_in s.nest.now (read_of s) (write_of s) s.level strided.strided.write c own place proofs
+                (own_is ∙ ap (λ n. Writer n place proofs) k.number) k.deep k.over
+                (refuted c place t at l.within k.refuted),
+            cut_writer tests c own n place proofs own_is at.within (cuts c place t at l.within k.refuted l.light),
+          ));
       same = λ x. gives-Writer x own n place proofs own_is ∙ sym (gives-Writer x (Writer n place told) n place told refl);
     }
 
 -- a Zero leaf
-pub zero_converted : (s : Strides) (places : List ℕ) (here : ℕ) (told proofs : List Proof) (own : Tree) → own ≡ Zero proofs
+pub zero_converted : (s : Strides) → IsStrided s → (places : List ℕ) (here : ℕ) (told proofs : List Proof) (own : Tree)
+    → own ≡ Zero proofs
     → ((c : Context) → IsTestedContext s places here c
     → AreRefuted (none_systems (told_read c.vars places (read_of s) (write_of s)) (told_write (write_of s)) s.level c) told
     → AreRefuted (none_systems (read_of s) (write_of s) s.level c) proofs)
@@ -588,15 +579,12 @@ pub zero_converted : (s : Strides) (places : List ℕ) (here : ℕ) (told proofs
     → AreRefuted (none_systems (told_read c.vars places (read_of s) (write_of s)) (told_write (write_of s)) s.level c) told
     → All IsLightSum told → AreNoneCutSums (read_of s) (write_of s) s.level c proofs)
     → IsConvertedTree s places here (Zero told) own
-zero_converted s places here told proofs own is refuted cuts =
-    let parts : (c : Context) → IsCheckedFor (told_read c.vars places (read_of s) (write_of s)) (told_write (write_of s))
-    s.level c (Zero told)
-    → AreRefuted (none_systems (told_read c.vars places (read_of s) (write_of s)) (told_write (write_of s)) s.level c) told
-    = λ c h. checked_zero (told_read c.vars places (read_of s) (write_of s)) (told_write (write_of s)) s.level c (Zero told)
-    told h refl in
+zero_converted s strided places here told proofs own is refuted cuts =
     record {
-      checked = λ c t h. at_zero c own proofs is (refuted c t (parts c h));
-      cuts = λ c tests t h simple.
-          cut_zero tests c own proofs is (cuts c t (parts c h) (simple_none tests (Zero told) told simple refl));
+      checked = λ c tests t h simple.
+          (let k = checked_zero c (Zero told) told h refl in (
+            none_in s.nest.now (read_of s) (write_of s) s.level strided.strided.write c own proofs is (refuted c t k.0),
+            cut_zero tests c own proofs is (cuts c t k.0 (simple_none tests (Zero told) told simple refl)),
+          ));
       same = λ x. gives-Zero x own proofs is ∙ sym (gives-Zero x (Zero told) told refl);
     }

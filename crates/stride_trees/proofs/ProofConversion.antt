@@ -7,9 +7,10 @@ use Rattle.std.proofs.Common.{true, sym, ap, ◌∙◌, subst, arith, append_ass
 use Rattle.std.specs.Prelude.{All}
 use Rattle.std.specs.List.{list_all}
 use Rattle.std.proofs.lemmas.List.{length-map, length-take-le, take-append-drop}
-use Rattle.std.proofs.lemmas.List.Elements.{All-nil, All-cons, All-head, All-tail}
+use Rattle.std.proofs.lemmas.List.Elements.{All-head, All-tail}
 use Rattle.std.proofs.lemmas.Bool.{and_parts}
 use Rattle.affine_core.specs.declared.form.Form.{Form}
+use Rattle.tree_graphs.specs.Joint.{IsSum}
 use Rattle.int_polyhedra.specs.declared.system.Proof.{Proof}
 use Rattle.int_polyhedra.specs.declared.system.Proof.TheVariants.{Sum}
 use Rattle.int_polyhedra.specs.declared.system.Term.{Term}
@@ -24,7 +25,7 @@ use Rattle.source_tree.proofs.Refutations.{AreRefuted-append}
 use Rattle.stride_trees.specs.Candidates.{order_number, AreCutSums, IsCutSumOf}
 use Rattle.tree_cuts.specs.Class.{is_pair, is_single}
 use Rattle.stride_trees.specs.Contexts.{differing, outside_of, own_system, outside_cell_systems, told_system, AddsConverted}
-use Rattle.stride_trees.specs.Contexts.{AreMadeSmall, AreOrders, AreTestsIn, IsPlaceIn, IsSum, IsTestedContext}
+use Rattle.stride_trees.specs.Contexts.{AreMadeSmall, AreOrders, AreTestsIn, IsPlaceIn, IsTestedContext}
 use Rattle.tree_cuts.specs.Cuts.{converted_sum}
 use Rattle.stride_trees.specs.Problem.{problem_reads, problem_rows, problem_writes, told_read, told_write}
 use Rattle.tree_cuts.specs.Sources.{divided_form, last_converted, next_place, places_behind, row_source}
@@ -39,12 +40,6 @@ use Rattle.stride_trees.proofs.Lists.{cut_sums_both}
 use Rattle.stride_trees.proofs.PlaceProofs.{cells_step, light_terms, nothing_added, outside_step}
 
 -- the light Sums are Sums
-pub light_sums : (proofs : List Proof) → All IsLightSum proofs → All IsSum proofs
-light_sums [] h = All-nil IsSum
-light_sums (proof ∷ proofs) h =
-    let l : IsLightSum proof = All-head IsLightSum proof proofs h in
-    All-cons IsSum proof proofs (l.0, l.1) (light_sums proofs (All-tail IsLightSum proof proofs h))
-
 -- A write
 
 module _ (s : Strides) (strided : IsStrided s) (places : List ℕ) (here more : ℕ) (proof own : Proof) (ts : List Term)

@@ -9,7 +9,7 @@ use Rattle.std.proofs.lemmas.List.{length-take-le, take-append-drop}
 use Rattle.affine_core.specs.declared.form.Form.{Form}
 use Rattle.int_polyhedra.specs.declared.system.Proof.{Proof}
 use Rattle.tree_graphs.specs.Simple.{IsLightSum}
-use Rattle.tree_graphs.specs.Systems.{place_systems}
+use Rattle.tree_graphs.specs.Joint.{point_systems}
 use Rattle.tree_sums.specs.Parts.{IsWithin}
 use Rattle.source_tree.specs.Checked.{AreRefuted}
 use Rattle.source_tree.specs.Systems.{Context}
@@ -33,8 +33,8 @@ cells_of s = length s.write.statement.now.rows + 2 * length s.write.access.now.s
 -- the proofs are so many at least
 pub enough : (s : Strides) (strided : IsStrided s) (places : List ℕ) (here : ℕ) (c : Context)
     (at : IsTestedContext s places here c) (place : List Form) → length place ≡ depth_of_write s → (told : List Proof)
-    → AreRefuted (place_systems (told_read c.vars places (read_of s) (write_of s)) (told_write (write_of s)) s.level c place)
-    told
+    → AreRefuted (point_systems (told_read c.vars places (read_of s) (write_of s)) (told_write (write_of s)) s.level c
+    place) told
     → cells_of s + depth_of_write s ≤ length told
 enough s strided places here c at place deep told h =
     omega (arith, told_count s strided places here c at place deep told h)
@@ -47,8 +47,8 @@ module _ (s : Strides) (strided : IsStrided s) (places : List ℕ) (here : ℕ)
     (h : Between s places here more last proofs new) (c : Context) (place : List Form)
     (at : IsTestedContext s places here c) (in_place : IsPlaceIn c (depth_of_write s) place)
     (near : All (IsWithin (2 ^ 40)) place)
-    (refuted : AreRefuted (place_systems (told_read c.vars places (read_of s) (write_of s)) (told_write (write_of s)) s.level c
-    place) told) where
+    (refuted : AreRefuted (point_systems (told_read c.vars places (read_of s) (write_of s)) (told_write (write_of s))
+    s.level c place) told) where
   abbrev Told : List Proof → Type 0
   Told told = AreRefuted
       (outside_cell_systems (told_read c.vars places (read_of s) (write_of s)) (told_write (write_of s)) c place) told
@@ -69,17 +69,17 @@ module _ (s : Strides) (strided : IsStrided s) (places : List ℕ) (here : ℕ)
   last_count : length last ≡ depth_of_write s
   last_count = omega (arith, ap length last_is, length-drop between told, between_is, many)
 
-  apart : AreRefuted (place_systems (told_read c.vars places (read_of s) (write_of s)) (told_write (write_of s)) s.level c place)
-      (first ++ (middle ++ last))
+  apart : AreRefuted (point_systems (told_read c.vars places (read_of s) (write_of s)) (told_write (write_of s)) s.level c
+      place) (first ++ (middle ++ last))
   apart = subst (AreRefuted
-      (place_systems (told_read c.vars places (read_of s) (write_of s)) (told_write (write_of s)) s.level c place)) told_is
-      refuted
+      (point_systems (told_read c.vars places (read_of s) (write_of s)) (told_write (write_of s)) s.level c place))
+      told_is refuted
 
   between_all : Between s places here more last (made ++ middle) new
   between_all = subst (λ old. Between s places here more last old new) after_is h
 
   pub leaf_refuted : (Told first → AreRefuted (outside_cell_systems (read_of s) (write_of s) c place) made)
-      → AreRefuted (place_systems (read_of s) (write_of s) s.level c place) new
+      → AreRefuted (point_systems (read_of s) (write_of s) s.level c place) new
   leaf_refuted of_place =
       writer_refuted s strided places here c at place in_place.deep in_place.over near more more_is first middle last made new
       first_count last_count between_all of_place apart

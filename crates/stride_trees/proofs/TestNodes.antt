@@ -239,7 +239,7 @@ module _ (s : Strides) (d : Division) (here : ℕ) (strided : IsStrided s) (test
     no_checked : (tree : Tree) → tree ≡ Zero (proof ∷ []) → IsCheckedAt s no tree
     no_checked tree is = at_zero no tree (proof ∷ []) is
         (subst (λ systems. AreRefuted systems (proof ∷ []))
-        (sym (zero_system s.nest.now (read_of s) (write_of s) s.level no rows strided.strided.write
+        (sym (zero_system s.nest.now (read_of s) (write_of s) s.level strided.strided.write no rows
         (of_level.level s strided no there).is)) (both.0, tt))
 
     no_cuts : AreNoneCutSums (read_of s) (write_of s) s.level no (proof ∷ [])

@@ -3,7 +3,7 @@ use Rattle.std.specs.Prelude.{◌≡◌, ◌^◌, ◌+◌, ℕ, List, [], ◌∷
 use Rattle.affine_core.specs.declared.form.Form.{Form}
 use Rattle.affine_core.specs.Affine.{widened_form}
 use Rattle.int_polyhedra.specs.declared.system.Proof.{Proof}
-use Rattle.tree_graphs.specs.Systems.{later_systems, none_systems}
+use Rattle.tree_graphs.specs.Joint.{later_systems, none_systems}
 use Rattle.tree_sums.specs.Parts.{IsWithin}
 use Rattle.source_tree.specs.Rows.{RowSystem, row_forms}
 use Rattle.source_tree.specs.Systems.{Context, Occurrence, after_systems, cell_systems, divides_no, divides_yes, outside_systems, root_context, test_no, test_yes, with_write_at}

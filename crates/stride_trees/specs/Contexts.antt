@@ -4,13 +4,11 @@ use Rattle.std.specs.List.{range_with_len}
 use Rattle.affine_core.specs.declared.form.Form.{Form}
 use Rattle.affine_core.specs.Affine.{widened_form}
 use Rattle.int_polyhedra.specs.declared.system.Proof.{Proof}
-use Rattle.int_polyhedra.specs.declared.system.Proof.TheVariants.{Sum}
 use Rattle.int_polyhedra.specs.declared.system.System.{System}
-use Rattle.int_polyhedra.specs.declared.system.Term.{Term}
 use Rattle.lex_max.specs.Answer.{IsAnswer}
 use Rattle.tree_graphs.specs.Asked.{read_of as asked_read, write_of as asked_write}
 use Rattle.tree_graphs.specs.Simple.{IsLightSum, IsSimple}
-use Rattle.tree_graphs.specs.Systems.{IsCheckedFor}
+use Rattle.tree_graphs.specs.Joint.{IsCheckedFor}
 use Rattle.tree_graphs.specs.declared.writes.Writes.{Writes}
 use Rattle.tree_sums.specs.Parts.{IsWithin}
 use Rattle.source_tree.specs.Checked.{AreRefuted, HaveVariables}
@@ -24,7 +22,7 @@ use Rattle.tree_cuts.specs.Class.{stride_of}
 use Rattle.stride_trees.specs.Divisions.{division_of}
 use Rattle.stride_trees.specs.Problem.{told_read, told_write}
 use Rattle.tree_cuts.specs.Sources.{next_place, places_behind}
-use Rattle.stride_trees.specs.Strides.{depth_of_read, read_of, root_of, tests_of, write_of, IsSmallContext}
+use Rattle.stride_trees.specs.Strides.{depth_of_read, read_of, root_of, tests_of, write_of, IsCheckedAt, IsSmallContext}
 use Rattle.stride_trees.specs.declared.divisions.Division.{Division}
 use Rattle.stride_trees.specs.declared.strides.Strides.{Strides}
 
@@ -102,10 +100,6 @@ pub record IsPlaceIn (c : Context) (depth : ℕ) (place : List Form) : Type 0 wh
   pub over : HaveVariables c.vars place
   pub within : All (IsWithin (2 ^ 48)) place
 
--- a proof that is one Sum
-abbrev pub IsSum : Proof → Type 0
-IsSum proof = (terms : List Term) × (proof ≡ Sum terms)
-
 -- Proofs were added for these systems, made from those of the systems that are told: where those refute their
 -- systems, these refute theirs. They are Cuts and a Sum where those are light and the numbers small.
 pub record AddsConverted (order : ℕ) (small : Type 0) (told own : List RowSystem)
@@ -139,19 +133,15 @@ AreOrders vars more level (rows ∷ further) =
     × AreOrders vars (more + 2) level further
 
 -- A tree was made from one of the problem over quotients, in each context that has the tests: it is checked there for
--- the statement's own write and read, its proofs are Cuts and a Sum, and it gives the same.
+-- the nest's own write and level, its proofs are Cuts and a Sum, and it gives the same.
 pub record IsConvertedTree (s : Strides) (places : List ℕ) (here : ℕ) (told own : Tree)
     : Type 0 where
-  pub checked : (c : Context) → IsTestedContext s places here c
+  pub checked : (c : Context) (tests : ℕ) → IsTestedContext s places here c
       → IsCheckedFor (told_read c.vars places (read_of s) (write_of s)) (told_write (write_of s))
       s.level c
       told
-      → IsCheckedFor (read_of s) (write_of s) s.level c own
-  pub cuts : (c : Context) (tests : ℕ) → IsTestedContext s places here c
-      → IsCheckedFor (told_read c.vars places (read_of s) (write_of s)) (told_write (write_of s))
-      s.level c
-      told
-      → IsSimple tests told → IsCutTree (read_of s) (write_of s) s.level tests c own
+      → IsSimple tests told
+      → IsCheckedAt s c own × IsCutTree (read_of s) (write_of s) s.level tests c own
   pub same : (x : List ℤ) → gives own x ≡ gives told x
 
 -- the places of its tests where no other tests are: 0, 1, 2 and so on

@@ -1,10 +1,12 @@
 -- What is left of a write before a read below its tests of divisibility: a problem of differences over the variables of a
 -- context, of which the tests' quotients are the last.
-use Rattle.std.specs.Prelude.{ℕ, ◌+◌, negsuc, ◌-ℤ◌, ◌||◌, List, [], ◌∷◌, map, length, if◌then◌else◌}
+use Rattle.std.specs.Prelude.{◌≡◌, ℕ, ◌+◌, negsuc, ◌-ℤ◌, ◌||◌, List, [], ◌∷◌, map, length, if◌then◌else◌}
 use Rattle.affine_core.specs.declared.form.Form.{Form}
 use Rattle.affine_core.specs.Affine.{form_product, variable_form, widened_form}
 use Rattle.source_tree.specs.Systems.{Occurrence}
 use Rattle.tree_cuts.specs.Class.{is_stride}
+use Rattle.tree_graphs.specs.declared.writes.Problem.{Problem}
+use Rattle.stride_trees.specs.declared.strides.Strides.{Strides}
 use Rattle.tree_cuts.specs.Sources.{divided_form, falls, loop_of, next_place, places_behind}
 
 -- A subscript of the write: its loop alone, where the loop's coefficient is neither 0 nor 1; else it stays.
@@ -54,3 +56,11 @@ told_read vars places r w = record r {
         r.access.subscripts;
   };
 }
+
+-- a problem is the write over quotients and the read's subscripts, where the tests stand at these places
+pub record IsToldProblem (s : Strides) (vars : ℕ) (places : List ℕ) (p : Problem) : Type 0 where
+  pub write : p.write ≡ s.write
+  pub rows : p.rows ≡ problem_rows s.write.statement.now.rows
+  pub write_forms : p.write_forms ≡ problem_writes s.write.access.now.subscripts
+  pub read_forms : p.read_forms ≡ problem_reads vars (length s.read.statement.now.loops) places
+      s.write.access.now.subscripts s.read.access.now.subscripts

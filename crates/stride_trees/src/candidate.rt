@@ -17,7 +17,7 @@ ghost use Rattle.source_tree.specs.References.{occurrence_of};
 use crate::contexts::context_of;
 use crate::divisions::{Division, divisions_of};
 use crate::leaves::converted_tree;
-use crate::problem::{divided_rows, told, told_reads, told_writes};
+use crate::problem::{problem_of, told};
 use crate::strides::Strides;
 use crate::tests::with_tests;
 use int_polyhedra::System;
@@ -130,13 +130,8 @@ fn told_tree(s: &Strides, places: &[u32], context: &System) -> Result<Tree, Allo
     ensures { IfOk result (IsToldTree s.now places.now context.now) }
 {
     let vars = context.vars as usize;
-    let divided = divided_rows(s.alloc, s.write.statement.rows.as_slice())?;
-    let found_writes = told_writes(s.alloc, s.write.access.subscripts.as_slice())?;
-    let found_reads = told_reads(s, vars, places)?;
-    let rows = divided.as_slice();
-    let writes = found_writes.as_slice();
-    let reads = found_reads.as_slice();
-    // The same for as long as these rows and subscripts are there.
+    let problem = problem_of(s, vars, places)?;
+    // The same for as long as the problem is there.
     let here = Strides {
         alloc: s.alloc,
         nest: s.nest,
@@ -153,7 +148,7 @@ fn told_tree(s: &Strides, places: &[u32], context: &System) -> Result<Tree, Allo
         common: s.common,
         level: s.level,
     };
-    let w = told(&here, vars, rows, writes, reads);
+    let w = told(&here, vars, &problem);
     tree_of(&w, context)
 }
 

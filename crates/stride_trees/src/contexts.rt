@@ -13,18 +13,7 @@ use affine_core::{Form, Overflow, Row};
 use int_polyhedra::System;
 use plain_data::Items;
 use std::alloc::{AllocError, Global};
-use tree_graphs::{difference, raised};
-
-// Adds the rows.
-fn push_copies(out: &mut Items<Row>, rows: &[Row]) -> Result<(), AllocError>
-    ensures { OnOk result (out.new ≡ out.old ++ rows.now) }
-{
-    let Some((row, rows)) = rows.split_first() else {
-        return Ok(());
-    };
-    out.push(row.copy())?;
-    push_copies(out, rows)
-}
+use tree_graphs::{difference, raised, system_of};
 
 // Adds the rows over so many variables.
 fn push_widened(out: &mut Items<Row>, rows: &[Row], vars: usize) -> Result<(), AllocError>
@@ -200,11 +189,7 @@ pub fn context_of(s: &Strides, divisions: &[Division]) -> Result<System, AllocEr
     ensures { IfOk result
         (IsMadeFrom (divided_context (root_context (read_of s.now)) (tests_of s.now))) }
 {
-    let mut rows = Items::new(s.alloc);
-    push_copies(&mut rows, s.read.statement.rows.as_slice())?;
-    let context = System {
-        vars: s.read.statement.loops.len() as u32,
-        rows,
-    };
+    let vars = s.read.statement.loops.len() as u32;
+    let context = system_of(s.alloc, vars, s.read.statement.rows.as_slice())?;
     with_quotients(s, context, divisions)
 }

@@ -3,6 +3,7 @@
 ghost use Rattle.std.specs.Prelude.{◌≡◌, ◌≤◌, ◌<◌, ◌||◌, ◌+◌, ◌*◌, ◌^◌, [], ◌∷◌, ◌++◌, ℕ, List, drop, length, take, All, IfOk, IsTrue, OnOk, if◌then◌else◌};
 ghost use Rattle.std.specs.List.{list_all};
 ghost use Rattle.affine_core.specs.declared.form.Form.{Form as FormOf};
+ghost use Rattle.tree_graphs.specs.Joint.{IsSum};
 ghost use Rattle.int_polyhedra.specs.declared.system.Term.{Term as TermOf};
 ghost use Rattle.tree_graphs.specs.Simple.{IsLightSum};
 ghost use Rattle.tree_sums.specs.Parts.{IsWithin};
@@ -12,7 +13,7 @@ ghost use Rattle.source_tree.specs.Rows.{RowExpr};
 ghost use Rattle.source_tree.specs.Systems.{Context};
 ghost use Rattle.stride_trees.specs.Candidates.{order_number, AreCutSums, IsCutSumOf};
 ghost use Rattle.tree_cuts.specs.Class.{is_pair, is_single};
-ghost use Rattle.stride_trees.specs.Contexts.{differing, outside_of, own_system, outside_cell_systems, told_system, AddsConverted, AreMadeSmall, AreTestsIn, IsPlaceIn, IsSum, IsTestedContext};
+ghost use Rattle.stride_trees.specs.Contexts.{differing, outside_of, own_system, outside_cell_systems, told_system, AddsConverted, AreMadeSmall, AreTestsIn, IsPlaceIn, IsTestedContext};
 ghost use Rattle.tree_cuts.specs.Cuts.{converted_sum};
 ghost use Rattle.stride_trees.specs.Problem.{problem_reads, problem_rows, problem_writes, told_read, told_write};
 ghost use Rattle.tree_cuts.specs.Sources.{cell_source as cell_source_of, last_converted, subscript_converted, write_sources as write_sources_of};

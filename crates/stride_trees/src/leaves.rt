@@ -3,13 +3,13 @@
 ghost use Rattle.std.specs.Prelude.{◌≡◌, ◌≤◌, ◌<◌, ◌+◌, ◌*◌, ◌^◌, ◌++◌, ℕ, List, length, map, All, IfOk, OnOk};
 ghost use Rattle.affine_core.specs.declared.form.Form.{Form as FormOf};
 ghost use Rattle.tree_graphs.specs.Simple.{IsLightSum, IsSimple};
-ghost use Rattle.tree_graphs.specs.Systems.{none_systems, place_systems, IsCheckedFor};
+ghost use Rattle.tree_graphs.specs.Joint.{none_systems, point_systems, IsCheckedFor, IsSum};
 ghost use Rattle.tree_sums.specs.Parts.{IsWithin};
 ghost use Rattle.source_tree.specs.Checked.{AreRefuted};
 ghost use Rattle.source_tree.specs.Rows.{RowExpr};
 ghost use Rattle.source_tree.specs.Systems.{Context};
 ghost use Rattle.stride_trees.specs.Candidates.{order_number, AreNoneCutSums, AreWriterCutSums};
-ghost use Rattle.stride_trees.specs.Contexts.{own_system, told_system, AddsConverted, AreOrders, IsConvertedTree, IsPlaceIn, IsSum, IsTestedContext};
+ghost use Rattle.stride_trees.specs.Contexts.{own_system, told_system, AddsConverted, AreOrders, IsConvertedTree, IsPlaceIn, IsTestedContext};
 ghost use Rattle.stride_trees.specs.Problem.{told_read, told_write};
 ghost use Rattle.stride_trees.specs.Strides.{depth_of_write, read_of, write_of, IsStrided};
 
@@ -79,18 +79,18 @@ fn writer_proofs(
     requires sums { All IsSum told.now }
     requires told { (c : Context) × (place : List FormOf)
         × IsTestedContext s.now places.now here c × (length place ≡ depth_of_write s.now)
-        × AreRefuted (place_systems (told_read c.vars places.now (read_of s.now) (write_of s.now))
+        × AreRefuted (point_systems (told_read c.vars places.now (read_of s.now) (write_of s.now))
         (told_write (write_of s.now)) s.now.level c place) told.now }
     ensures refuted { IfOk result (λ proofs. (c : Context) (place : List FormOf)
         → IsTestedContext s.now places.now here c → IsPlaceIn c (depth_of_write s.now) place
         → All (IsWithin (2 ^ 40)) place
-        → AreRefuted (place_systems (told_read c.vars places.now (read_of s.now) (write_of s.now))
+        → AreRefuted (point_systems (told_read c.vars places.now (read_of s.now) (write_of s.now))
         (told_write (write_of s.now)) s.now.level c place) told.now
-        → AreRefuted (place_systems (read_of s.now) (write_of s.now) s.now.level c place) proofs) }
+        → AreRefuted (point_systems (read_of s.now) (write_of s.now) s.now.level c place) proofs) }
     ensures cuts { IfOk result (λ proofs. (c : Context) (place : List FormOf)
         → IsTestedContext s.now places.now here c → IsPlaceIn c (depth_of_write s.now) place
         → All (IsWithin (2 ^ 40)) place
-        → AreRefuted (place_systems (told_read c.vars places.now (read_of s.now) (write_of s.now))
+        → AreRefuted (point_systems (told_read c.vars places.now (read_of s.now) (write_of s.now))
         (told_write (write_of s.now)) s.now.level c place) told.now
         → All IsLightSum told.now
         → AreWriterCutSums (read_of s.now) (write_of s.now) s.now.level c place proofs) }

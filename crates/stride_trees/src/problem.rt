@@ -4,7 +4,7 @@ ghost use Rattle.affine_core.specs.Affine.{variable_form};
 ghost use Rattle.tree_graphs.specs.Asked.{read_of as asked_read, write_of as asked_write, IsAsked};
 ghost use Rattle.tree_sums.specs.Parts.{IsWithin};
 ghost use Rattle.tree_cuts.specs.Class.{is_stride};
-ghost use Rattle.stride_trees.specs.Problem.{problem_read as read_told, problem_reads, problem_rows, problem_write as write_told, problem_writes, told_read, told_write};
+ghost use Rattle.stride_trees.specs.Problem.{problem_read as read_told, problem_reads, problem_rows, problem_write as write_told, problem_writes, told_read, told_write, IsToldProblem};
 ghost use Rattle.tree_cuts.specs.Sources.{divided_form, falls as falls_of, loop_of as loop_of_coefs};
 ghost use Rattle.stride_trees.specs.Strides.{depth_of_read, read_of, write_of, ArePlaces, IsStrided};
 
@@ -15,7 +15,7 @@ use int_polyhedra::quotients;
 use plain_data::Items;
 use std::alloc::{AllocError, Global};
 use tree_cuts::{falls, next_quotient, places_behind, size, small_stride, stride_of};
-use tree_graphs::{Writes, negative};
+use tree_graphs::{Problem, Writes, negative};
 
 // A domain row, divided by the size of its coefficient outside -1 to 1, if it has one.
 fn divided_row(row: &Row) -> Row
@@ -39,8 +39,8 @@ fn push_rows(out: &mut Items<Row>, rows: &[Row]) -> Result<(), AllocError>
     push_rows(out, rows)
 }
 
-/// The domain rows, each divided by the size of its coefficient outside -1 to 1, if it has one.
-pub fn divided_rows(alloc: Global, rows: &[Row]) -> Result<Items<Row>, AllocError>
+// The domain rows, each divided by the size of its coefficient outside -1 to 1, if it has one.
+fn divided_rows(alloc: Global, rows: &[Row]) -> Result<Items<Row>, AllocError>
     requires { All (IsWithin (2 ^ 32)) rows.now }
     ensures { IfOk result (λ divided. divided ≡ problem_rows rows.now) }
 {
@@ -148,8 +148,8 @@ fn push_reads(
     push_reads(out, alloc, vars, depth, behind, writes, reads)
 }
 
-/// The write's subscripts: each loop alone, where its coefficient is neither 0 nor 1.
-pub fn told_writes(alloc: Global, writes: &[Form]) -> Result<Items<Form>, AllocError>
+// The write's subscripts: each loop alone, where its coefficient is neither 0 nor 1.
+fn told_writes(alloc: Global, writes: &[Form]) -> Result<Items<Form>, AllocError>
     ensures { IfOk result (λ told. told ≡ problem_writes writes.now) }
 {
     let mut told = Items::new(alloc);
@@ -157,8 +157,8 @@ pub fn told_writes(alloc: Global, writes: &[Form]) -> Result<Items<Form>, AllocE
     Ok(told)
 }
 
-/// The read's subscripts over so many variables of a context, where the tests of the write stand at these places.
-pub fn told_reads(s: &Strides, vars: usize, places: &[u32]) -> Result<Items<Form>, AllocError>
+// The read's subscripts over so many variables of a context, where the tests of the write stand at these places.
+fn told_reads(s: &Strides, vars: usize, places: &[u32]) -> Result<Items<Form>, AllocError>
     requires strided { IsStrided s.now }
     requires places { ArePlaces s.now vars places.now }
     ensures { IfOk result (λ told. told ≡ problem_reads vars (depth_of_read s.now) places.now
@@ -172,26 +172,38 @@ pub fn told_reads(s: &Strides, vars: usize, places: &[u32]) -> Result<Items<Form
     Ok(told)
 }
 
-/// The writes as a problem of differences over so many variables of a context, with these domain rows and subscripts.
-pub fn told<'a>(
+/// The write over quotients as a problem of differences over so many variables of a context, where its tests stand at these
+/// places.
+pub fn problem_of<'a>(
     s: &Strides<'a>,
     vars: usize,
-    rows: &'a [Row],
-    writes: &'a [Form],
-    reads: &'a [Form],
-) -> Writes<'a>
+    places: &[u32],
+) -> Result<Problem<'a>, AllocError>
     requires strided { IsStrided s.now }
-    requires rows { rows.now ≡ problem_rows s.now.write.statement.now.rows }
-    requires writes { writes.now ≡ problem_writes s.now.write.access.now.subscripts }
-    requires reads { (places : List ℕ) × ArePlaces s.now vars places
-        × (reads.now ≡ problem_reads vars (depth_of_read s.now) places
-        s.now.write.access.now.subscripts s.now.read.access.now.subscripts) }
+    requires places { ArePlaces s.now vars places.now }
+    ensures { IfOk result (IsToldProblem s.now vars places.now) }
+{
+    let rows = divided_rows(s.alloc, s.write.statement.rows.as_slice())?;
+    let write_forms = told_writes(s.alloc, s.write.access.subscripts.as_slice())?;
+    let read_forms = told_reads(s, vars, places)?;
+    Ok(Problem {
+        write: s.write,
+        rows,
+        write_forms,
+        read_forms,
+    })
+}
+
+/// The writes of the problem at the level.
+pub fn told<'a>(s: &Strides<'a>, vars: usize, problem: &'a Problem<'a>) -> Writes<'a>
+    requires strided { IsStrided s.now }
+    requires told { (places : List ℕ) × ArePlaces s.now vars places
+        × IsToldProblem s.now vars places problem.now }
     ensures asked { IsAsked result }
     ensures vars { result.vars ≡ vars }
     ensures level { result.level ≡ s.now.level }
     ensures number { result.write.number ≡ s.now.write.number }
-    ensures read { (places : List ℕ) → reads.now ≡ problem_reads vars (depth_of_read s.now) places
-        s.now.write.access.now.subscripts s.now.read.access.now.subscripts
+    ensures read { (places : List ℕ) → IsToldProblem s.now vars places problem.now
         → asked_read result ≡ told_read vars places (read_of s.now) (write_of s.now) }
     ensures write { asked_write result ≡ told_write (write_of s.now) }
 {
@@ -200,9 +212,9 @@ pub fn told<'a>(
         vars,
         read: s.read,
         write: s.write,
-        rows,
-        write_forms: writes,
-        read_forms: reads,
+        rows: problem.rows.as_slice(),
+        write_forms: problem.write_forms.as_slice(),
+        read_forms: problem.read_forms.as_slice(),
         common: s.common,
         level: s.level,
     }

@@ -4,6 +4,7 @@ use affine_core::Row;
 use int_polyhedra::System;
 use plain_data::Items;
 use std::alloc::{AllocError, Global};
+use tree_graphs::copied_rows;
 
 fn push_copies(out: &mut Items<Row>, rows: &[Row]) -> Result<(), AllocError>
     ensures { OnOk result (out.new ≡ out.old ++ rows.now) }
@@ -20,8 +21,7 @@ pub fn with_facts(alloc: Global, context: &System, facts: &[Row]) -> Result<Syst
     ensures { IfOk result (λ told. told
         ≡ record { vars = context.now.vars; rows = context.now.rows ++ facts.now }) }
 {
-    let mut rows = Items::new(alloc);
-    push_copies(&mut rows, context.rows.as_slice())?;
+    let mut rows = copied_rows(alloc, context.rows.as_slice())?;
     push_copies(&mut rows, facts)?;
     Ok(System {
         vars: context.vars,

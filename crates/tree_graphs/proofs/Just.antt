@@ -4,28 +4,32 @@
 -- every other writer, so of the list over all writes of the array that of one remains: by induction over the
 -- statements, where those before it and behind it give nothing. That the writer is named by its number, and no other
 -- is, is what this rests on. So a tree that is checked for the writer alone is checked in the nest.
-use Rattle.std.proofs.Common.{◌≡◌, ◌+◌, ◌<◌, ◌==◌, ℕ, zero, suc, List, [], ◌∷◌, ◌++◌, map, take, drop}
+use Rattle.std.proofs.Common.{◌≡◌, ◌+◌, ◌<◌, ◌==◌, ℕ, zero, suc, List, [], ◌∷◌, ◌++◌, length, map, take, drop}
 use Rattle.std.proofs.Common.{Bool, true, false, cond, refl, sym, ap, ◌∙◌, subst, arith, ne_eqb}
 use Rattle.std.specs.Prelude.{Option, Some, None, slice_get}
 use Rattle.std.specs.List.{flat_map}
 use Rattle.std.proofs.lemmas.Bool.{eq-eqb}
-use Rattle.std.proofs.lemmas.List.{append-nil}
+use Rattle.std.proofs.lemmas.List.{append-nil, append_assoc}
 use Rattle.std.proofs.lemmas.Option.{same_Some, option_and_then_some}
 use Rattle.affine_core.specs.declared.form.Form.{Form}
 use Rattle.sanlp.specs.declared.nest.Access.{Access}
 use Rattle.sanlp.specs.declared.nest.Nest.{Nest}
 use Rattle.sanlp.specs.declared.nest.Statement.{Statement}
 use Rattle.tree_graphs.specs.Edges.{AreLevelRows}
-use Rattle.tree_graphs.specs.Systems.{at_test, at_writer, at_zero, later_systems, none_systems, IsCheckedFor}
-use Rattle.source_tree.specs.Checked.{at_test as test_in, at_writer as writer_in, at_zero as zero_in, AreRefuted}
-use Rattle.source_tree.specs.Checked.{IsCheckedIn}
+use Rattle.tree_graphs.specs.Joint.{at_dead, at_test, at_writer, at_zero, later_systems, no_orders, none_systems, orders_behind}
+use Rattle.tree_graphs.specs.Joint.{point_systems, IsCheckedFor}
+use Rattle.tree_graphs.proofs.Nodes.{checked_point, IsCheckedPoint}
+use Rattle.int_polyhedra.specs.declared.system.Proof.{Proof}
+use Rattle.source_tree.specs.Checked.{at_dead as dead_in, at_test as test_in, at_writer as writer_in, at_zero as zero_in}
+use Rattle.source_tree.specs.Checked.{AreRefuted, HaveVariables, IsCheckedIn}
 use Rattle.source_tree.specs.Places.{before_rows}
 use Rattle.source_tree.specs.Rows.{RowExpr, RowSystem}
 use Rattle.source_tree.specs.Systems.{Occurrence, Context, just, named_write, write_to, with_write, writes_from}
 use Rattle.source_tree.specs.Systems.{array_writes, reader_place, writer_place, with_rows, with_write_at, write_systems}
 use Rattle.source_tree.specs.Systems.{after_systems, between_systems, cell_systems, outside_systems, test_no, test_yes}
-use Rattle.source_tree.specs.Systems.{zero_systems}
+use Rattle.source_tree.specs.Systems.{writer_systems, zero_systems}
 use Rattle.source_tree.specs.declared.tree.Tree.{Tree}
+use Rattle.source_tree.specs.declared.tree.Tree.TheVariants.{Writer, Zero}
 
 one_at : {X : Type 0} (xs : List X) (p : ℕ) (x : X) → slice_get xs p ≡ Some x → take 1 (drop p xs) ≡ x ∷ []
 one_at [] p x e = absurd (let h : None ≡ Some x = e in cc)
@@ -110,41 +114,63 @@ module _ (r w : Occurrence) (p : ℕ) (c : Context) (further : Occurrence → Li
 pub none_system : (r w : Occurrence) (p : ℕ) (c : Context) (level : List RowExpr)
     → AreLevelRows r w p (writer_place c w) level
     → none_systems r w p c ≡ with_rows (with_write_at r c w) (level ++ []) ∷ []
-none_system r w p c level is = own_systems r w p c (λ v. [] ∷ []) level is
+none_system r w p c level is =
+    append-nil (write_systems r (just w.number p) c no_orders w) ∙ own_systems r w p c no_orders level is
 
 pub later_system : (r w : Occurrence) (p : ℕ) (c : Context) (level : List RowExpr) (y : List Form)
     → AreLevelRows r w p (writer_place c w) level
-    → later_systems r w p c y ≡ map (λ q. with_rows (with_write_at r c w) (level ++ q))
-    (before_rows w.number w.statement y w.number w.statement (writer_place c w))
-later_system r w p c level y is = own_systems r w p c
-    (λ v. before_rows w.number w.statement y v.number v.statement (writer_place c v)) level is
+    → later_systems r w p c y ≡ map (λ q. with_rows (with_write_at r c w) (level ++ q)) (orders_behind w y c w)
+later_system r w p c level y is =
+    append-nil (write_systems r (just w.number p) c (orders_behind w y c) w)
+    ∙ own_systems r w p c (orders_behind w y c) level is
 
 -- In a nest
 
-zero_just : (n : Nest) (r w : Occurrence) (p : ℕ) (c : Context) → named_write n r w.number ≡ Some w
-    → zero_systems n r (just w.number p) c ≡ none_systems r w p c
-zero_just n r w p c named = just_one r w p c (λ v. [] ∷ []) n named
+module _ (n : Nest) (r w : Occurrence) (p : ℕ) (named : named_write n r w.number ≡ Some w) (c : Context) where
+  pub zero_just : zero_systems n r (just w.number p) c ≡ none_systems r w p c
+  zero_just = just_one r w p c no_orders n named ∙ sym (append-nil (write_systems r (just w.number p) c no_orders w))
 
-later_just : (n : Nest) (r w : Occurrence) (p : ℕ) (c : Context) (y : List Form) → named_write n r w.number ≡ Some w
-    → between_systems n r (just w.number p) c w y ≡ later_systems r w p c y
-later_just n r w p c y named = just_one r w p c
-    (λ v. before_rows w.number w.statement y v.number v.statement (writer_place c v)) n named
+  pub zero_system : (level : List RowExpr) → AreLevelRows r w p (writer_place c w) level
+      → zero_systems n r (just w.number p) c ≡ with_rows (with_write_at r c w) (level ++ []) ∷ []
+  zero_system level is = zero_just ∙ none_system r w p c level is
 
-pub zero_system : (n : Nest) (r w : Occurrence) (p : ℕ) (c : Context) (level : List RowExpr) → named_write n r w.number
-    ≡ Some w → AreLevelRows r w p (writer_place c w) level
-    → zero_systems n r (just w.number p) c ≡ with_rows (with_write_at r c w) (level ++ []) ∷ []
-zero_system n r w p c level named is = zero_just n r w p c named ∙ none_system r w p c level is
+  -- the systems of a place, part by part
+  pub point_just : (y : List Form) → writer_systems n r (just w.number p) c w y ≡ point_systems r w p c y
+  point_just y =
+      let further : Occurrence → List (List RowExpr) = orders_behind w y c in
+      let o : List RowSystem = outside_systems c w y in
+      let l : List RowSystem = cell_systems r c w y in
+      let f : List RowSystem = after_systems r c w y in
+      let later : between_systems n r (just w.number p) c w y ≡ later_systems r w p c y
+      = just_one r w p c further n named ∙ sym (append-nil (write_systems r (just w.number p) c further w)) in
+      ap (λ systems. o ++ (l ++ (f ++ systems))) later
+      ∙ sym (append_assoc o (l ++ f) (later_systems r w p c y)
+      ∙ ap (λ xs. o ++ xs) (append_assoc l f (later_systems r w p c y)))
 
--- a tree that is checked for a write of the nest is checked in the nest for that writer and level
+  -- a tree that is checked for a write of the nest is checked in the nest for that writer and level
+  pub point_in : (tree : Tree) (place : List Form) (proofs : List Proof) → tree ≡ Writer w.number place proofs
+      → length place ≡ length w.statement.loops → HaveVariables c.vars place
+      → AreRefuted (point_systems r w p c place) proofs → IsCheckedIn n r (just w.number p) c tree
+  point_in tree place proofs is deep over refuted =
+      writer_in c tree w.number place proofs w is named refl deep over
+      (subst (λ systems. AreRefuted systems proofs) (sym (point_just place)) refuted)
+
+  pub none_in : (tree : Tree) (proofs : List Proof) → tree ≡ Zero proofs → AreRefuted (none_systems r w p c) proofs
+      → IsCheckedIn n r (just w.number p) c tree
+  none_in tree proofs is refuted =
+      zero_in c tree proofs is (subst (λ systems. AreRefuted systems proofs) (sym zero_just) refuted)
+
+-- a tree that is checked for the write is checked in the nest
 pub checked_in : (n : Nest) (r w : Occurrence) (p : ℕ) → named_write n r w.number ≡ Some w → (c : Context) (tree : Tree)
     → IsCheckedFor r w p c tree → IsCheckedIn n r (just w.number p) c tree
-checked_in n r w p named c tree (at_test c' tree' form above below is over upper lower) =
+checked_in n r w p named c tree (at_test c' tree' form above below is over within upper lower) =
     test_in c tree form above below is over (checked_in n r w p named (test_yes c form) above upper)
     (checked_in n r w p named (test_no c form) below lower)
-checked_in n r w p named c tree (at_writer c' tree' place proofs is deep over within refuted) =
-    writer_in c tree w.number place proofs w is named refl deep over
-    (subst (λ systems. AreRefuted (outside_systems c w place
-    ++ (cell_systems r c w place ++ (after_systems r c w place ++ systems))) proofs)
-    (sym (later_just n r w p c place named)) refuted)
-checked_in n r w p named c tree (at_zero c' tree' proofs is refuted) =
-    zero_in c tree proofs is (subst (λ systems. AreRefuted systems proofs) (sym (zero_just n r w p c named)) refuted)
+checked_in n r w p named c tree (at_writer c' tree' o place proofs is there deep over within refuted sums) =
+    let k : IsCheckedPoint r w p c o.write.number place proofs =
+    checked_point r w p c tree o.write.number place proofs
+    (at_writer c tree o place proofs is there deep over within refuted sums) is in
+    point_in n r w p named c tree place proofs (is ∙ ap (λ s. Writer s place proofs) k.number) k.deep k.over k.refuted
+checked_in n r w p named c tree (at_zero c' tree' proofs is refuted sums) =
+    none_in n r w p named c tree proofs is refuted
+checked_in n r w p named c tree (at_dead c' tree' proof is refuted) = dead_in c tree proof is refuted

@@ -4,41 +4,36 @@
 -- has one node (`node_unique`), so of a Test the cases of the leaves contradict, and in the case of a Test its form and
 -- its trees are those of the node; and so for the leaves. This only reads the evidence of one node: it is no induction,
 -- and the nodes below are reached by whoever goes down to them.
-use Rattle.std.proofs.Common.{◌≡◌, ◌+◌, ◌-◌, ◌^◌, ◌≤◌, ℕ, List, length, refl, sym, ap, ◌∙◌, subst, arith}
-use Rattle.std.specs.Prelude.{All}
+use Rattle.std.proofs.Common.{◌≡◌, ◌+◌, ◌-◌, ◌^◌, ◌≤◌, ℕ, zero, suc, List, [], ◌∷◌, length, refl, sym, ap, ◌∙◌, subst, arith}
+use Rattle.std.specs.Prelude.{All, Contains}
+use Rattle.std.proofs.lemmas.List.Elements.{All-weaker}
 use Rattle.affine_core.specs.declared.form.Form.{Form}
 use Rattle.int_polyhedra.specs.declared.system.Proof.{Proof}
 use Rattle.tree_graphs.specs.Simple.{IsLightSum, IsSimple, at_test as simple_test, at_writer as simple_writer}
 use Rattle.tree_graphs.specs.Simple.{at_zero as simple_zero}
-use Rattle.tree_graphs.specs.Systems.{at_test, at_writer, at_zero, none_systems, place_systems, IsCheckedFor}
+use Rattle.tree_graphs.specs.Joint.{at_dead, at_test, at_writer, at_zero, no_orders, place_systems, point_systems, read_and_write}
+use Rattle.tree_graphs.specs.Joint.{write_systems_of, IsCheckedFor, IsCheckedForAll, IsPointFor, IsSum, ReadAndWrite}
 use Rattle.tree_sums.specs.Parts.{IsWithin}
 use Rattle.source_tree.specs.Checked.{AreRefuted, HaveVariables}
-use Rattle.source_tree.specs.Systems.{Context, Occurrence, test_no, test_yes}
+use Rattle.source_tree.specs.Systems.{Context, Occurrence, Which, dead_systems, just, test_no, test_yes}
 use Rattle.source_tree.specs.declared.tree.Tree.{Tree}
 use Rattle.source_tree.specs.declared.tree.Tree.TheOpen as open_
-use Rattle.source_tree.specs.declared.tree.Tree.TheVariants.{Writer, Zero}
+use Rattle.source_tree.specs.declared.tree.Tree.TheVariants.{Dead, Writer, Zero}
 use Rattle.source_tree.specs.declared.tree.Tree.TheViews.{Test}
-use Rattle.source_tree.proofs.Views.{node-Test, node-Writer, node-Zero, node_unique}
+use Rattle.source_tree.proofs.Views.{node-Dead, node-Test, node-Writer, node-Zero, node_unique}
 
 -- Checked nodes
 
-pub record AreBothChecked (r w : Occurrence) (p : ℕ) (c : Context) (form : Form) (a b : Tree) : Type 0 where
+pub record AreBothChecked (P : Context → Tree → Type 0) (c : Context) (form : Form) (a b : Tree) : Type 0 where
   pub over : length form.coefs ≡ c.vars
-  pub above : IsCheckedFor r w p (test_yes c form) a
-  pub below : IsCheckedFor r w p (test_no c form) b
+  pub within : IsWithin (2 ^ 49 + 1) form
+  pub above : P (test_yes c form) a
+  pub below : P (test_no c form) b
 
-pub record IsCheckedPoint (r w : Occurrence) (p : ℕ) (c : Context) (s : ℕ) (place : List Form) (proofs : List Proof)
-    : Type 0 where
-  pub number : s ≡ w.number
-  pub deep : length place ≡ length w.statement.loops
-  pub over : HaveVariables c.vars place
-  pub within : All (IsWithin (2 ^ 40)) place
-  pub refuted : AreRefuted (place_systems r w p c place) proofs
-
-module _ (r w : Occurrence) (p : ℕ) where
-  pub checked_test : (c : Context) (tree : Tree) (form : Form) (a b : Tree) → IsCheckedFor r w p c tree
-      → tree ≡ Test form a b → AreBothChecked r w p c form a b
-  checked_test _ _ form a b (at_test c tree f x y is over first second) e =
+module _ {which : Which} {pairs : List ReadAndWrite} where
+  pub checked_test : (c : Context) (tree : Tree) (form : Form) (a b : Tree) → IsCheckedForAll which pairs c tree
+      → tree ≡ Test form a b → AreBothChecked (IsCheckedForAll which pairs) c form a b
+  checked_test _ _ form a b (at_test c tree f x y is over within first second) e =
       let same : open_.Test f x y ≡ open_.Test form a b = node_unique tree (open_.Test f x y) (open_.Test form a b)
       (node-Test tree f x y is) (node-Test tree form a b e) in
       let forms : f ≡ form = cc in
@@ -46,57 +41,114 @@ module _ (r w : Occurrence) (p : ℕ) where
       let below : y ≡ b = cc in
       record {
         over = ap (λ (f : Form). length f.coefs) (sym forms) ∙ over;
-        above = subst (λ f. IsCheckedFor r w p (test_yes c f) a) forms
-            (subst (IsCheckedFor r w p (test_yes c f)) above first);
-        below = subst (λ f. IsCheckedFor r w p (test_no c f) b) forms
-            (subst (IsCheckedFor r w p (test_no c f)) below second);
+        within = subst (IsWithin (2 ^ 49 + 1)) forms within;
+        above = subst (λ f. IsCheckedForAll which pairs (test_yes c f) a) forms
+            (subst (IsCheckedForAll which pairs (test_yes c f)) above first);
+        below = subst (λ f. IsCheckedForAll which pairs (test_no c f) b) forms
+            (subst (IsCheckedForAll which pairs (test_no c f)) below second);
       }
-  checked_test _ _ form a b (at_writer c tree place proofs is deep over within refuted) e =
-      absurd (let k : open_.Writer w.number place proofs ≡ open_.Test form a b =
-      node_unique tree (open_.Writer w.number place proofs) (open_.Test form a b) (node-Writer tree w.number place proofs is)
-      (node-Test tree form a b e) in cc)
-  checked_test _ _ form a b (at_zero c tree proofs is refuted) e =
+  checked_test _ _ form a b (at_writer c tree o place proofs is there deep over within refuted sums) e =
+      absurd (let k : open_.Writer o.write.number place proofs ≡ open_.Test form a b =
+      node_unique tree (open_.Writer o.write.number place proofs) (open_.Test form a b)
+      (node-Writer tree o.write.number place proofs is) (node-Test tree form a b e) in cc)
+  checked_test _ _ form a b (at_zero c tree proofs is refuted sums) e =
       absurd (let k : open_.Zero proofs ≡ open_.Test form a b = node_unique tree (open_.Zero proofs) (open_.Test form a b)
       (node-Zero tree proofs is) (node-Test tree form a b e) in cc)
+  checked_test _ _ form a b (at_dead c tree proof is refuted) e =
+      absurd (let k : open_.Dead proof ≡ open_.Test form a b = node_unique tree (open_.Dead proof) (open_.Test form a b)
+      (node-Dead tree proof is) (node-Test tree form a b e) in cc)
 
-  pub checked_point : (c : Context) (tree : Tree) (s : ℕ) (place : List Form) (proofs : List Proof)
-      → IsCheckedFor r w p c tree → tree ≡ Writer s place proofs → IsCheckedPoint r w p c s place proofs
-  checked_point _ _ s place proofs (at_test c tree f x y is over first second) e =
+  pub point_for : (c : Context) (tree : Tree) (s : ℕ) (place : List Form) (proofs : List Proof)
+      → IsCheckedForAll which pairs c tree → tree ≡ Writer s place proofs → IsPointFor which pairs c s place proofs
+  point_for _ _ s place proofs (at_test c tree f x y is over within first second) e =
       absurd (let k : open_.Test f x y ≡ open_.Writer s place proofs = node_unique tree (open_.Test f x y)
       (open_.Writer s place proofs) (node-Test tree f x y is) (node-Writer tree s place proofs e) in cc)
-  checked_point _ _ s place proofs (at_writer c tree place' proofs' is deep over within refuted) e =
-      let k : open_.Writer w.number place' proofs' ≡ open_.Writer s place proofs
-      = node_unique tree (open_.Writer w.number place' proofs') (open_.Writer s place proofs)
-      (node-Writer tree w.number place' proofs' is) (node-Writer tree s place proofs e) in
-      let number : w.number ≡ s = cc in
+  point_for _ _ s place proofs (at_writer c tree o place' proofs' is there deep over within refuted sums) e =
+      let k : open_.Writer o.write.number place' proofs' ≡ open_.Writer s place proofs =
+      node_unique tree (open_.Writer o.write.number place' proofs') (open_.Writer s place proofs)
+      (node-Writer tree o.write.number place' proofs' is) (node-Writer tree s place proofs e) in
+      let number : o.write.number ≡ s = cc in
       let forms : place' ≡ place = cc in
       let own : proofs' ≡ proofs = cc in
       record {
-        number = sym number;
+        pair = o;
+        among = there;
+        number_is = sym number;
         deep = ap length (sym forms) ∙ deep;
         over = subst (HaveVariables c.vars) forms over;
-        within = subst (All (IsWithin (2 ^ 40))) forms within;
-        refuted = subst (AreRefuted (place_systems r w p c place)) own
-            (subst (λ place. AreRefuted (place_systems r w p c place) proofs') forms refuted);
+        within = subst (All (IsWithin (2 ^ 48))) forms within;
+        refuted = subst (AreRefuted (place_systems which pairs o place c)) own
+            (subst (λ place. AreRefuted (place_systems which pairs o place c) proofs') forms refuted);
+        sums = subst (All IsSum) own sums;
       }
-  checked_point _ _ s place proofs (at_zero c tree own is refuted) e =
+  point_for _ _ s place proofs (at_zero c tree own is refuted sums) e =
       absurd (let k : open_.Zero own ≡ open_.Writer s place proofs = node_unique tree (open_.Zero own)
       (open_.Writer s place proofs) (node-Zero tree own is) (node-Writer tree s place proofs e) in cc)
+  point_for _ _ s place proofs (at_dead c tree own is refuted) e =
+      absurd (let k : open_.Dead own ≡ open_.Writer s place proofs = node_unique tree (open_.Dead own)
+      (open_.Writer s place proofs) (node-Dead tree own is) (node-Writer tree s place proofs e) in cc)
 
-  pub checked_zero : (c : Context) (tree : Tree) (proofs : List Proof) → IsCheckedFor r w p c tree → tree ≡ Zero proofs
-      → AreRefuted (none_systems r w p c) proofs
-  checked_zero _ _ proofs (at_test c tree f x y is over first second) e =
+  pub checked_zero : (c : Context) (tree : Tree) (proofs : List Proof) → IsCheckedForAll which pairs c tree
+      → tree ≡ Zero proofs → AreRefuted (write_systems_of which pairs c no_orders) proofs × All IsSum proofs
+  checked_zero _ _ proofs (at_test c tree f x y is over within first second) e =
       absurd (let k : open_.Test f x y ≡ open_.Zero proofs = node_unique tree (open_.Test f x y) (open_.Zero proofs)
       (node-Test tree f x y is) (node-Zero tree proofs e) in cc)
-  checked_zero _ _ proofs (at_writer c tree place own is deep over within refuted) e =
-      absurd (let k : open_.Writer w.number place own ≡ open_.Zero proofs =
-      node_unique tree (open_.Writer w.number place own) (open_.Zero proofs) (node-Writer tree w.number place own is)
-      (node-Zero tree proofs e) in cc)
-  checked_zero _ _ proofs (at_zero c tree own is refuted) e =
+  checked_zero _ _ proofs (at_writer c tree o place own is there deep over within refuted sums) e =
+      absurd (let k : open_.Writer o.write.number place own ≡ open_.Zero proofs =
+      node_unique tree (open_.Writer o.write.number place own) (open_.Zero proofs)
+      (node-Writer tree o.write.number place own is) (node-Zero tree proofs e) in cc)
+  checked_zero _ _ proofs (at_zero c tree own is refuted sums) e =
       let k : open_.Zero own ≡ open_.Zero proofs =
       node_unique tree (open_.Zero own) (open_.Zero proofs) (node-Zero tree own is) (node-Zero tree proofs e) in
       let same : own ≡ proofs = cc in
-      subst (AreRefuted (none_systems r w p c)) same refuted
+      (subst (AreRefuted (write_systems_of which pairs c no_orders)) same refuted, subst (All IsSum) same sums)
+  checked_zero _ _ proofs (at_dead c tree proof is refuted) e =
+      absurd (let k : open_.Dead proof ≡ open_.Zero proofs = node_unique tree (open_.Dead proof) (open_.Zero proofs)
+      (node-Dead tree proof is) (node-Zero tree proofs e) in cc)
+
+  pub checked_dead : (c : Context) (tree : Tree) (proof : Proof) → IsCheckedForAll which pairs c tree
+      → tree ≡ Dead proof → AreRefuted (dead_systems c) (proof ∷ [])
+  checked_dead _ _ proof (at_test c tree f x y is over within first second) e =
+      absurd (let k : open_.Test f x y ≡ open_.Dead proof = node_unique tree (open_.Test f x y) (open_.Dead proof)
+      (node-Test tree f x y is) (node-Dead tree proof e) in cc)
+  checked_dead _ _ proof (at_writer c tree o place own is there deep over within refuted sums) e =
+      absurd (let k : open_.Writer o.write.number place own ≡ open_.Dead proof =
+      node_unique tree (open_.Writer o.write.number place own) (open_.Dead proof)
+      (node-Writer tree o.write.number place own is) (node-Dead tree proof e) in cc)
+  checked_dead _ _ proof (at_zero c tree own is refuted sums) e =
+      absurd (let k : open_.Zero own ≡ open_.Dead proof = node_unique tree (open_.Zero own) (open_.Dead proof)
+      (node-Zero tree own is) (node-Dead tree proof e) in cc)
+  checked_dead _ _ proof (at_dead c tree own is refuted) e =
+      let k : open_.Dead own ≡ open_.Dead proof =
+      node_unique tree (open_.Dead own) (open_.Dead proof) (node-Dead tree own is) (node-Dead tree proof e) in
+      let same : own ≡ proof = cc in
+      subst (λ p. AreRefuted (dead_systems c) (p ∷ [])) same refuted
+
+-- of one write at one level
+pub record IsCheckedPoint (r w : Occurrence) (p : ℕ) (c : Context) (s : ℕ) (place : List Form) (proofs : List Proof)
+    : Type 0 where
+  pub number : s ≡ w.number
+  pub deep : length place ≡ length w.statement.loops
+  pub over : HaveVariables c.vars place
+  pub refuted : AreRefuted (point_systems r w p c place) proofs
+
+pub checked_point : (r w : Occurrence) (p : ℕ) (c : Context) (tree : Tree) (s : ℕ) (place : List Form)
+    (proofs : List Proof) → IsCheckedFor r w p c tree → tree ≡ Writer s place proofs
+    → IsCheckedPoint r w p c s place proofs
+checked_point r w p c tree s place proofs h e =
+    let k : IsPointFor (just w.number p) (read_and_write r w ∷ []) c s place proofs =
+    point_for c tree s place proofs h e in
+    let same : read_and_write r w ≡ k.pair = the_one (read_and_write r w) k.pair k.among in
+    record {
+      number = k.number_is ∙ ap (λ (o : ReadAndWrite). o.write.number) (sym same);
+      deep = k.deep ∙ ap (λ (o : ReadAndWrite). length o.write.statement.loops) (sym same);
+      over = k.over;
+      refuted = subst (λ o. AreRefuted (place_systems (just w.number p) (read_and_write r w ∷ []) o place c) proofs)
+          (sym same) k.refuted;
+    } where
+      the_one : (o x : ReadAndWrite) → Contains (o ∷ []) x → o ≡ x
+      the_one o x (zero, lt, is) = is
+      the_one o x (suc k, lt, is) = absurd (omega (arith, lt))
 
 -- Simple nodes
 
@@ -130,7 +182,7 @@ simple_both _ _ form a b (simple_zero tests tree proofs is light) e =
     (node-Zero tree proofs is) (node-Test tree form a b e) in cc)
 
 pub record IsSimplePoint (place : List Form) (proofs : List Proof) : Type 0 where
-  pub within : All (IsWithin (2 ^ 48)) place
+  pub within : All (IsWithin (2 ^ 40)) place
   pub light : All IsLightSum proofs
 
 pub simple_point : (m : ℕ) (tree : Tree) (s : ℕ) (place : List Form) (proofs : List Proof) → IsSimple m tree → tree
@@ -144,7 +196,7 @@ simple_point m tree s place proofs (simple_writer m' tree' s' place' proofs' is 
     (node-Writer tree s place proofs e) in
     let forms : place' ≡ place = cc in
     let own : proofs' ≡ proofs = cc in
-    record { within = subst (All (IsWithin (2 ^ 48))) forms within; light = subst (All IsLightSum) own light }
+    record { within = subst (All (IsWithin (2 ^ 40))) forms within; light = subst (All IsLightSum) own light }
 simple_point m tree s place proofs (simple_zero m' tree' own is light) e =
     absurd (let k : open_.Zero own ≡ open_.Writer s place proofs = node_unique tree (open_.Zero own)
     (open_.Writer s place proofs) (node-Zero tree own is) (node-Writer tree s place proofs e) in cc)
@@ -162,6 +214,9 @@ simple_none _ _ proofs (simple_zero tests tree own is light) e =
     node_unique tree (open_.Zero own) (open_.Zero proofs) (node-Zero tree own is) (node-Zero tree proofs e) in
     let same : own ≡ proofs = cc in
     subst (All IsLightSum) same light
+
+pub light_sums : (proofs : List Proof) → All IsLightSum proofs → All IsSum proofs
+light_sums proofs light = All-weaker IsLightSum IsSum (λ p l. (l.0, l.1)) proofs light
 
 -- fewer Tests than may be
 pub simple_wider : (m n : ℕ) (tree : Tree) → m ≤ n → IsSimple m tree → IsSimple n tree

@@ -18,7 +18,7 @@ use Rattle.tree_graphs.specs.Asked.{IsProblem}
 use Rattle.tree_graphs.specs.Edges.{write_rows, AreEdges, AreEdgesOf, AreLevelRows}
 use Rattle.tree_graphs.specs.Level.{common_of, HasLevel}
 use Rattle.tree_graphs.specs.Paths.{terms_from}
-use Rattle.tree_graphs.specs.Systems.{none_systems}
+use Rattle.tree_graphs.specs.Joint.{none_systems}
 use Rattle.tree_graphs.specs.declared.edges.Edge.{Edge}
 use Rattle.tree_graphs.proofs.ProblemBounds.{known_of, IsKnown}
 use Rattle.tree_graphs.proofs.Just.{none_system}

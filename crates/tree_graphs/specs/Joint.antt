@@ -1,5 +1,5 @@
 -- The systems of the leaves of a tree for several writes, and when such a tree is checked.
-use Rattle.std.specs.Prelude.{◌≡◌, ◌^◌, ◌+◌, List, [], ◌∷◌, ◌++◌, length, All, Contains}
+use Rattle.std.specs.Prelude.{◌≡◌, ◌^◌, ◌+◌, ℕ, List, [], ◌∷◌, ◌++◌, length, All, Contains}
 use Rattle.std.specs.List.{flat_map}
 use Rattle.affine_core.specs.declared.form.Form.{Form}
 use Rattle.tree_graphs.specs.Contexts.{IsMadeAs}
@@ -11,7 +11,7 @@ use Rattle.tree_sums.specs.Parts.{IsWithin}
 use Rattle.source_tree.specs.Checked.{AreRefuted, HaveVariables}
 use Rattle.source_tree.specs.Places.{before_rows}
 use Rattle.source_tree.specs.Rows.{RowExpr, RowSystem}
-use Rattle.source_tree.specs.Systems.{Context, Occurrence, every, test_yes, test_no, writer_place, write_systems, outside_systems, cell_systems, after_systems, dead_systems}
+use Rattle.source_tree.specs.Systems.{Context, Occurrence, Which, every, just, test_yes, test_no, writer_place, write_systems, outside_systems, cell_systems, after_systems, dead_systems}
 use Rattle.source_tree.specs.declared.tree.Tree.{Tree}
 use Rattle.source_tree.specs.declared.tree.Tree.TheVariants.{Writer, Zero, Dead}
 use Rattle.source_tree.specs.declared.tree.Tree.TheViews.{Test}
@@ -30,11 +30,11 @@ abbrev pub orders_behind : Occurrence → List Form → Context → Occurrence �
 orders_behind w place c u =
     before_rows w.number w.statement place u.number u.statement (writer_place c u)
 
--- each of the writes at a point before its read, with each of these orders
-abbrev pub write_systems_of : List ReadAndWrite → Context → (Occurrence → List (List RowExpr))
-    → List RowSystem
-write_systems_of pairs c further =
-    flat_map (λ o. write_systems o.read every c further o.write) pairs
+-- each of the writes before its read, at the levels that are chosen, with each of these orders
+abbrev pub write_systems_of : Which → List ReadAndWrite → Context
+    → (Occurrence → List (List RowExpr)) → List RowSystem
+write_systems_of which pairs c further =
+    flat_map (λ o. write_systems o.read which c further o.write) pairs
 
 -- a place of a write is outside its domain, writes another cell than its read reads, or isn't before the read
 abbrev pub head_systems : ReadAndWrite → List Form → Context → List RowSystem
@@ -43,37 +43,77 @@ head_systems o place c =
     ++ (cell_systems o.read c o.write place ++ after_systems o.read c o.write place)
 
 -- or one of the writes is between the place and its read
-abbrev pub place_systems : List ReadAndWrite → ReadAndWrite → List Form → Context → List RowSystem
-place_systems pairs o place c =
-    head_systems o place c ++ write_systems_of pairs c (orders_behind o.write place c)
+abbrev pub place_systems : Which → List ReadAndWrite → ReadAndWrite → List Form → Context
+    → List RowSystem
+place_systems which pairs o place c =
+    head_systems o place c ++ write_systems_of which pairs c (orders_behind o.write place c)
 
 -- the proof is a sum of rows
 abbrev pub IsSum : Proof → Type 0
 IsSum proof = (ts : List Term) × (proof ≡ Sum ts)
 
--- A tree of Tests in a context is checked for these reads and writes: its forms have as many variables as there are and
--- small numbers, a Writer leaf names the statement of one of the writes and has a form with small numbers for each of
--- its loops, and each leaf's proofs refute its systems. Those of Writer and Zero leaves are Sums.
-pub data IsCheckedForAll (pairs : List ReadAndWrite) : Context → Tree → Type 0 where
+-- A tree of Tests in a context is checked for these reads and writes at the levels that are chosen: its
+-- forms have as many variables as there are and small numbers, a Writer leaf names the statement of one of
+-- the writes and has a form with small numbers for each of its loops, and each leaf's proofs refute its
+-- systems. Those of Writer and Zero leaves are Sums.
+pub data IsCheckedForAll (which : Which) (pairs : List ReadAndWrite) : Context → Tree
+    → Type 0 where
   at_test : (c : Context) (tree : Tree) (form : Form) (above below : Tree)
       → tree ≡ Test form above below
       → length form.coefs ≡ c.vars → IsWithin (2 ^ 49 + 1) form
-      → IsCheckedForAll pairs (test_yes c form) above → IsCheckedForAll pairs (test_no c form) below
-      → IsCheckedForAll pairs c tree
+      → IsCheckedForAll which pairs (test_yes c form) above
+      → IsCheckedForAll which pairs (test_no c form) below
+      → IsCheckedForAll which pairs c tree
   at_writer : (c : Context) (tree : Tree) (o : ReadAndWrite) (place : List Form)
       (proofs : List Proof) → tree ≡ Writer o.write.number place proofs → Contains pairs o
       → length place ≡ length o.write.statement.loops → HaveVariables c.vars place
       → All (IsWithin (2 ^ 48)) place
-      → AreRefuted (place_systems pairs o place c) proofs → All IsSum proofs
-      → IsCheckedForAll pairs c tree
+      → AreRefuted (place_systems which pairs o place c) proofs → All IsSum proofs
+      → IsCheckedForAll which pairs c tree
   at_zero : (c : Context) (tree : Tree) (proofs : List Proof) → tree ≡ Zero proofs
-      → AreRefuted (write_systems_of pairs c no_orders) proofs → All IsSum proofs
-      → IsCheckedForAll pairs c tree
+      → AreRefuted (write_systems_of which pairs c no_orders) proofs → All IsSum proofs
+      → IsCheckedForAll which pairs c tree
   at_dead : (c : Context) (tree : Tree) (proof : Proof) → tree ≡ Dead proof
       → AreRefuted (dead_systems c) (proof ∷ [])
-      → IsCheckedForAll pairs c tree
+      → IsCheckedForAll which pairs c tree
 
--- a tree is checked for these reads and writes in each context that is made as these rows
+-- a tree is checked for these reads and writes at all levels, in each context made as these rows
 abbrev pub IsTreeFor : List ReadAndWrite → System → Tree → Type 0
 IsTreeFor pairs context tree =
-    (c : Context) → IsMadeAs context c → IsCheckedForAll pairs c tree
+    (c : Context) → IsMadeAs context c → IsCheckedForAll every pairs c tree
+
+-- the number, the place and the proofs are those of a Writer leaf that is checked for them
+pub record IsPointFor (which : Which) (pairs : List ReadAndWrite) (c : Context) (number : ℕ)
+    (place : List Form) (proofs : List Proof) : Type 0 where
+  pub pair : ReadAndWrite
+  pub among : Contains pairs pair
+  pub number_is : number ≡ pair.write.number
+  pub deep : length place ≡ length pair.write.statement.loops
+  pub over : HaveVariables c.vars place
+  pub within : All (IsWithin (2 ^ 48)) place
+  pub refuted : AreRefuted (place_systems which pairs pair place c) proofs
+  pub sums : All IsSum proofs
+
+-- One write at level p before a read
+
+-- the read and the write
+abbrev pub read_and_write : Occurrence → Occurrence → ReadAndWrite
+read_and_write r w = record { read = r; write = w }
+
+-- the write before the read
+abbrev pub none_systems : Occurrence → Occurrence → ℕ → Context → List RowSystem
+none_systems r w p c = write_systems_of (just w.number p) (read_and_write r w ∷ []) c no_orders
+
+-- the write between a place and the read
+abbrev pub later_systems : Occurrence → Occurrence → ℕ → Context → List Form → List RowSystem
+later_systems r w p c place =
+    write_systems_of (just w.number p) (read_and_write r w ∷ []) c (orders_behind w place c)
+
+-- a place of the write is outside its domain, writes another cell, isn't before the read or not the last
+abbrev pub point_systems : Occurrence → Occurrence → ℕ → Context → List Form → List RowSystem
+point_systems r w p c place =
+    place_systems (just w.number p) (read_and_write r w ∷ []) (read_and_write r w) place c
+
+-- a tree is checked for the write
+abbrev pub IsCheckedFor : Occurrence → Occurrence → ℕ → Context → Tree → Type 0
+IsCheckedFor r w p = IsCheckedForAll (just w.number p) (read_and_write r w ∷ [])

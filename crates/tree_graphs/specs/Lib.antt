@@ -2,7 +2,6 @@ pub mod Class
 pub mod Level
 pub mod Simple
 pub mod Asked
-pub mod Systems
 pub mod Contexts
 pub mod Joint
 pub mod Heights

@@ -6,6 +6,7 @@ ghost use Rattle.tree_graphs.specs.Rounds.{AreClosedOf, IsBack, IsGraphOf, Round
 use crate::closure::{Bound, Bounds, form_beyond};
 use crate::edges::Edge;
 use crate::forms::sum;
+use crate::rows::copied_rows;
 use crate::terms::{append, once};
 use crate::writes::Writes;
 use affine_core::{Form, Row};
@@ -32,10 +33,7 @@ pub fn with_row(context: &System, row: Row) -> Result<System, AllocError>
     ensures { IfOk result
         (λ more. more ≡ record context.now { rows = context.now.rows ++ row ∷ [] }) }
 {
-    let mut rows = Items::new(context.rows.allocator());
-    for old in context.rows.as_slice() {
-        rows.push(old.copy())?;
-    }
+    let mut rows = copied_rows(context.rows.allocator(), context.rows.as_slice())?;
     rows.push(row)?;
     Ok(System {
         vars: context.vars,

@@ -14,6 +14,7 @@ mod cycles;
 mod edges;
 mod facts;
 mod forms;
+mod rows;
 mod terms;
 mod writes;
 
@@ -23,5 +24,6 @@ pub use cycles::{Cycle, Graph, cycles_of, with_row};
 pub use edges::{Edge, edges_of};
 pub use facts::{Search, Sign, known, known_by, sign_of};
 pub use forms::{difference, negative, opposite, raised, sum};
+pub use rows::{copied_rows, system_of};
 pub use terms::{append, append_from, joined, once, sum_with_row};
-pub use writes::Writes;
+pub use writes::{Problem, Writes};

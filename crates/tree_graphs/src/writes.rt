@@ -1,8 +1,19 @@
 ghost use Rattle.std.specs.Prelude.{◌≡◌, length};
 
 use affine_core::{Form, Row};
+use plain_data::Items;
 use source_tree::Reference;
 use std::alloc::Global;
+
+/// A write of a read's array, told by differences over the variables of a context: `rows` are the writer's domain rows and
+/// `write_forms` its subscripts, over its loops, and `read_forms` those of the read, over the variables.
+#[derive(Drop)]
+pub struct Problem<'a> {
+    pub write: Reference<'a>,
+    pub rows: Items<Row>,
+    pub write_forms: Items<Form>,
+    pub read_forms: Items<Form>,
+}
 
 /// The writes of one statement to the cell of a read that stand before the read at one level of order, told over `vars`
 /// variables of a context, of which the reader's loops are the first. `rows` are the writer's domain rows; `write_forms` are

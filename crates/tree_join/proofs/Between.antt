@@ -11,7 +11,7 @@ use Rattle.std.specs.List.{range_with_len}
 use Rattle.std.specs.Option.{option_map, option_map_or}
 use Rattle.std.proofs.lemmas.Int.{fits_signed_mul, ints}
 use Rattle.std.proofs.lemmas.List.{length-append, map-append, get_or_past}
-use Rattle.std.proofs.lemmas.List.Elements.{All-head, All-tail}
+use Rattle.std.proofs.lemmas.List.Elements.{All-head, All-tail, All-weaker}
 use Rattle.std.proofs.lemmas.Option.{same_Some, slice_get-map, slice_get_within}
 use Rattle.affine_core.specs.declared.form.Form.{Form}
 use Rattle.affine_core.specs.Affine.{widened_form}
@@ -49,9 +49,10 @@ use Rattle.plain_data.proofs.Options.{option_map-some}
 use Rattle.plain_data.proofs.Lists.{slice_get-append_right, All-slice_get}
 use Rattle.tree_sums.specs.Carried.{carried_terms, sum_in_place, CarryFits, ProductsFit}
 use Rattle.tree_sums.specs.Made.{parts_of}
-use Rattle.tree_sums.specs.Parts.{Part, the_constant, the_coefficient, part_of, row_part, weight}
+use Rattle.tree_sums.specs.Parts.{Part, the_constant, the_coefficient, part_of, row_part, weight, IsWithin}
 use Rattle.tree_sums.specs.Shown.{RowParts, Shows}
 use Rattle.tree_sums.proofs.SumAlgebra.{combines}
+use Rattle.tree_sums.proofs.Within.{IsWithin-weaker}
 use Rattle.tree_sums.proofs.MoreVariables.{shown_widens}
 use Rattle.sanlp.proofs.Lists.{range_with_len-append}
 use Rattle.sanlp.proofs.Precedence.{common_first, common_loops-comm, common_loops-same}
@@ -98,7 +99,8 @@ point_is r context at place h p =
       deep = k.deep;
       forms = record {
         over = subst (λ v. All (λ form. length form.coefs ≡ v) place) h.node.vars k.over;
-        within = s.within;
+        within = All-weaker (IsWithin (2 ^ 40)) (IsWithin (2 ^ 48))
+            (λ f l. IsWithin-weaker (2 ^ 40) (2 ^ 48) f (omega arith) l) place s.within;
       };
     }
 

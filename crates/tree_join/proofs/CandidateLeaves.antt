@@ -8,7 +8,7 @@ use Rattle.std.proofs.Common.{true, false, cond, refl, sym, ap, ◌∙◌, subst
 use Rattle.std.specs.Prelude.{Some, None, All, Contains, nat_lt, slice_get}
 use Rattle.std.specs.List.{AllZip}
 use Rattle.std.specs.Option.{option_map}
-use Rattle.std.proofs.lemmas.List.{append_assoc, length-append, length-map}
+use Rattle.std.proofs.lemmas.List.{length-append, length-map}
 use Rattle.std.proofs.lemmas.List.Elements.{All-append, All-cons, All-head, All-nil, All-tail, All-take, All-weaker}
 use Rattle.std.proofs.lemmas.Option.{same_Some, slice_get-map}
 use Rattle.sanlp.proofs.Precedence.{common_loops-same}
@@ -39,13 +39,12 @@ use Rattle.tree_graphs.specs.Asked.{read_of, write_of}
 use Rattle.tree_graphs.specs.Edges.{AreLevelRows}
 use Rattle.tree_graphs.specs.Level.{common_of}
 use Rattle.tree_graphs.specs.Simple.{IsLightSum}
-use Rattle.tree_graphs.specs.Systems.{later_systems}
 use Rattle.tree_graphs.proofs.Just.{later_system}
 use Rattle.tree_graphs.proofs.ZeroSystems.{placed, IsPlaced}
 use Rattle.plain_data.proofs.Lists.{All-slice_get}
 use Rattle.source_tree.specs.Checked.{AreRefuted, IsRefuted}
 use Rattle.source_tree.specs.Rows.{RowExpr, RowSystem}
-use Rattle.source_tree.specs.Systems.{Context, Occurrence, after_systems, cell_systems, outside_systems, with_rows}
+use Rattle.source_tree.specs.Systems.{every, with_rows, Context, Occurrence}
 use Rattle.source_tree.specs.Systems.{with_write_at, writer_place}
 use Rattle.source_tree.specs.declared.tree.Tree.{Tree}
 use Rattle.source_tree.specs.declared.tree.Tree.TheVariants.{Writer, Zero}
@@ -87,9 +86,6 @@ carried_sums sums (p ∷ ps) (q ∷ more) z l =
 
 -- A candidate's leaf
 
-regroup : (a b c d : List RowSystem) → a ++ (b ++ (c ++ d)) ≡ (a ++ (b ++ c)) ++ d
-regroup a b c d = sym (append_assoc a (b ++ c) d ∙ ap (λ x. a ++ x) (append_assoc b c d))
-
 module _ (r : Read) (context : System) (path : IsPathContext r.context.now.vars 0 context) (at : Position)
     (h : IsAt r context at) (place : List Form) (proofs : List Proof)
     (is : at.node.now ≡ Writer at.candidate.now.writes.write.number place proofs) where
@@ -130,9 +126,7 @@ module _ (r : Read) (context : System) (path : IsPathContext r.context.now.vars 
     split rows rows_is =
         subst (λ xs. AreRefuted (head_systems pair place k.own ++ xs) proofs)
         (later_system read u cand.writes.level k.own rows place rows_is)
-        (subst (λ xs. AreRefuted xs proofs)
-        (regroup (outside_systems k.own u place) (cell_systems read k.own u place) (after_systems read k.own u place)
-        (later_systems read u cand.writes.level k.own place)) parts.refuted)
+        parts.refuted
 
     orders_count : length (orders_behind u place k.own u) ≡ length u.statement.loops
     orders_count = order_rows_count u u place k.own point.deep ∙ depth_levels
@@ -232,7 +226,7 @@ module _ (r : Read) (context : System) (path : IsPathContext r.context.now.vars 
 pub writer_tree : (r : Read) (context : System) (o : ReadAndWrite) (place : List Form) (heads proofs : List Proof)
     (tree : Tree) → Contains (pairs_of r) o → IsPointIn context o.write place → tree
     ≡ Writer o.write.number place proofs → AddsRefutations context (head_systems o place) [] heads
-    → AddsRefutations context (λ c. write_systems_of (pairs_of r) c (orders_behind o.write place c)) heads proofs
+    → AddsRefutations context (λ c. write_systems_of every (pairs_of r) c (orders_behind o.write place c)) heads proofs
     → IsJoinedTree r context tree
 writer_tree r context o place heads proofs tree there point is h k c made =
     let first : AreRefuted ([] ++ head_systems o place c) heads = h.refuted c [] made tt in
@@ -241,5 +235,6 @@ writer_tree r context o place heads proofs tree there point is h k c made =
     (k.refuted c ([] ++ head_systems o place c) made first) (k.sums (h.sums (All-nil _)))
 
 pub zero_tree : (r : Read) (context : System) (proofs : List Proof) (tree : Tree) → tree ≡ Zero proofs
-    → AddsRefutations context (λ c. write_systems_of (pairs_of r) c no_orders) [] proofs → IsJoinedTree r context tree
+    → AddsRefutations context (λ c. write_systems_of every (pairs_of r) c no_orders) [] proofs
+    → IsJoinedTree r context tree
 zero_tree r context proofs tree is h c made = at_zero c tree proofs is (h.refuted c [] made tt) (h.sums (All-nil _))

@@ -12,7 +12,7 @@ use Rattle.tree_order.specs.Candidates.{AddsLevel, HasCandidate, IsCandidate, Is
 use Rattle.tree_order.specs.Reads.{pair_in, pairs_of, pairs_with}
 use Rattle.tree_graphs.specs.Joint.{ReadAndWrite}
 use Rattle.tree_order.specs.declared.candidates.Candidate.{Candidate}
-use Rattle.tree_order.specs.declared.candidates.Problem.{Problem}
+use Rattle.tree_graphs.specs.declared.writes.Problem.{Problem}
 use Rattle.tree_order.specs.declared.candidates.Read.{Read}
 use Rattle.tree_graphs.specs.Level.{common_of, HasLevel}
 use Rattle.plain_data.proofs.Lists.{slice_get_push_at, slice_get-append_some}

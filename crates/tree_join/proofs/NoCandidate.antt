@@ -76,7 +76,7 @@ module _ (r : Read) (context : System) (path : IsPathContext r.context.now.vars 
     one_system : AreRefuted (with_rows (with_write_at read own u) (sys.level ++ []) ∷ []) proofs
     one_system =
         subst (λ xs. AreRefuted xs proofs) (none_system read u cand.writes.level own sys.level sys.level_is)
-        (checked_zero read u cand.writes.level own at.node.now proofs over.checked is)
+        (checked_zero own at.node.now proofs over.checked is).0
 
     first_refuted : (one : RowSystem) (ps : List Proof) (proof : Proof) → AreRefuted (one ∷ []) ps → slice_get ps 0
         ≡ Some proof → IsRefuted one proof

@@ -10,7 +10,7 @@ use Rattle.tree_order.specs.Candidates.{is_candidate_of, IsCandidate}
 use Rattle.tree_order.specs.Reads.{pair_in, pair_of, pairs_of}
 use Rattle.tree_graphs.specs.Joint.{ReadAndWrite}
 use Rattle.tree_order.specs.declared.candidates.Candidate.{Candidate}
-use Rattle.tree_order.specs.declared.candidates.Problem.{Problem}
+use Rattle.tree_graphs.specs.declared.writes.Problem.{Problem}
 use Rattle.tree_order.specs.declared.candidates.Read.{Read}
 
 contains_map : {X Y : Type 0} (f : X → Y) (xs : List X) (x : X) → Contains xs x → Contains (map f xs) (f x)

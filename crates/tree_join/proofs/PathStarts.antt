@@ -29,7 +29,7 @@ use Rattle.tree_graphs.specs.Asked.{read_of, write_of}
 use Rattle.tree_graphs.specs.Facts.{form_parts, IsFact}
 use Rattle.tree_graphs.specs.Paths.{term_of}
 use Rattle.tree_graphs.specs.Simple.{IsLightSum, at_zero as simple_zero}
-use Rattle.tree_graphs.specs.Systems.{at_zero}
+use Rattle.tree_graphs.specs.Joint.{at_zero, IsSum}
 use Rattle.tree_graphs.proofs.FactSums.{fact_same}
 use Rattle.tree_graphs.proofs.Just.{none_system}
 use Rattle.tree_graphs.proofs.MadeRows.{taken_all}
@@ -145,7 +145,7 @@ absent_is r context c node ts h path is light refutes =
       checked = at_zero own node (Sum ts ∷ []) is
           (subst (λ xs. AreRefuted xs (Sum ts ∷ []))
           (sym (none_system read u c.writes.level own sys.level sys.level_is))
-          (refutes own sys.level made sys.level_is, tt));
+          (refutes own sys.level made sys.level_is, tt)) (All-cons IsSum (Sum ts) [] (ts, refl) (All-nil _));
       shown = shown_own context [] context.rows [] (sym (append-nil context.rows));
       tests = 0;
       simple = simple_zero 0 node (Sum ts ∷ []) is (All-cons IsLightSum (Sum ts) [] (ts, refl, light) (All-nil _));

@@ -11,8 +11,8 @@ use lex_max::tree_of;
 use plain_data::Items;
 use sanlp::common_loops;
 use std::alloc::AllocError;
-use tree_graphs::{Closure, Cycle, Edge, Graph, Writes, closure_of, cycles_of, edges_of};
-use tree_order::{Candidate, Problem, Read, level_count};
+use tree_graphs::{Closure, Cycle, Edge, Graph, Problem, Writes, closure_of, cycles_of, edges_of};
+use tree_order::{Candidate, Read, level_count};
 
 fn cycles_in(writes: &Writes, edges: &[Edge], closure: &Closure) -> Result<Items<Cycle>, AllocError>
     requires graph { IsGraphOf writes.now edges.now }
@@ -26,7 +26,7 @@ fn cycles_in(writes: &Writes, edges: &[Edge], closure: &Closure) -> Result<Items
 }
 
 // The writes of a problem at one level before the read.
-fn writes_at<'a>(read: &Read<'a>, problem: &Problem<'a>, level: usize) -> Writes<'a>
+fn writes_at<'a>(read: &Read<'a>, problem: &'a Problem<'a>, level: usize) -> Writes<'a>
     requires asked { HasLevel (read_in read.now problem.now) (write_in problem.now) level }
     requires joined { IsJoined read.now }
     requires problem { Contains read.now.problems.now problem.now }
@@ -37,14 +37,17 @@ fn writes_at<'a>(read: &Read<'a>, problem: &Problem<'a>, level: usize) -> Writes
     ensures level { result.level ≡ level }
 {
     let loops = problem.write.statement.loops.as_slice();
+    let rows = problem.rows.as_slice();
+    let write_forms = problem.write_forms.as_slice();
+    let read_forms = problem.read_forms.as_slice();
     Writes {
         alloc: read.alloc,
         vars: read.context.vars as usize,
         read: read.reference,
         write: problem.write,
-        rows: problem.rows,
-        write_forms: problem.write_forms,
-        read_forms: problem.read_forms,
+        rows,
+        write_forms,
+        read_forms,
         common: common_loops(loops, read.reference.statement.loops.as_slice()),
         level,
     }
@@ -52,7 +55,7 @@ fn writes_at<'a>(read: &Read<'a>, problem: &Problem<'a>, level: usize) -> Writes
 
 fn candidate_of<'a>(
     read: &Read<'a>,
-    problem: &Problem<'a>,
+    problem: &'a Problem<'a>,
     level: usize,
 ) -> Result<Candidate<'a>, AllocError>
     requires joined { IsJoined read.now }
@@ -81,7 +84,7 @@ fn candidate_of<'a>(
 fn push_level<'a>(
     candidates: &mut Items<Candidate<'a>>,
     read: &Read<'a>,
-    problems: &[Problem<'a>],
+    problems: &'a [Problem<'a>],
     level: usize,
     within: bool,
 ) -> Result<(), AllocError>

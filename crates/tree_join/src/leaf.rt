@@ -26,10 +26,10 @@ use int_polyhedra::{Proof, Term};
 use plain_data::Items;
 use source_tree::Tree;
 use std::alloc::{AllocError, Global};
-use tree_graphs::append;
+use tree_graphs::{Problem, append};
 use tree_order::{
-    Absence, Equality, Order, Outcome, Position, Problem, carried, carried_behind, level_count,
-    outcome_of, places,
+    Absence, Equality, Order, Outcome, Position, carried, carried_behind, level_count, outcome_of,
+    places,
 };
 
 /// A candidate that is excluded at a leaf: per level of order the terms that refute that one of its
@@ -314,7 +314,7 @@ fn push_between(
     requires problems { All (Contains state.now.read.now.problems.now) problems.now }
     ensures { OnOk result ((place : List FormOf) → IsPointAt best.now place
         → AddsRefutations state.now.context.now
-        (λ c. write_systems_of (pairs_with state.now.read.now problems.now) c
+        (λ c. write_systems_of every (pairs_with state.now.read.now problems.now) c
         (orders_behind (write_of best.now.candidate.now.writes) place c))
         proofs.old proofs.new) }
 {
@@ -448,7 +448,7 @@ fn push_without(
     requires end { IsEmptyEnd state.now }
     requires problems { All (Contains state.now.read.now.problems.now) problems.now }
     ensures { OnOk result (AddsRefutations state.now.context.now
-        (λ c. write_systems_of (pairs_with state.now.read.now problems.now) c no_orders)
+        (λ c. write_systems_of every (pairs_with state.now.read.now problems.now) c no_orders)
         proofs.old proofs.new) }
 {
     let Some((problem, problems)) = problems.split_first() else {

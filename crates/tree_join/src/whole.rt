@@ -10,6 +10,7 @@ use int_polyhedra::System;
 use plain_data::Items;
 use source_tree::Tree;
 use std::alloc::{AllocError, Global};
+use tree_graphs::system_of;
 use tree_order::Read;
 
 // The first so many numbers.
@@ -27,14 +28,8 @@ fn numbers(alloc: Global, count: usize) -> Result<Items<u32>, AllocError>
 fn copy_of(context: &System) -> Result<System, AllocError>
     ensures { IfOk result (λ copy. copy ≡ context.now) }
 {
-    let mut rows = Items::new(context.rows.allocator());
-    for row in context.rows.as_slice() {
-        rows.push(row.copy())?;
-    }
-    Ok(System {
-        vars: context.vars,
-        rows,
-    })
+    let alloc = context.rows.allocator();
+    system_of(alloc, context.vars, context.rows.as_slice())
 }
 
 /// The tree of the last write before a read: at each point that meets the read's context the write of the problems that

@@ -34,7 +34,7 @@ use Rattle.tree_graphs.specs.Edges.{edge_parts, write_rows, AreLevelRows, IsEdge
 use Rattle.tree_graphs.specs.Facts.{form_parts, IsFact}
 use Rattle.tree_graphs.specs.Paths.{edge_part, term_of}
 use Rattle.tree_graphs.specs.Simple.{IsSimple}
-use Rattle.tree_graphs.specs.Systems.{IsCheckedFor}
+use Rattle.tree_graphs.specs.Joint.{IsCheckedFor}
 use Rattle.tree_graphs.specs.declared.edges.Edge.{Edge}
 use Rattle.tree_graphs.proofs.OrderEdges.{variable_over, variable_within}
 use Rattle.tree_graphs.proofs.ZeroSystems.{placed, IsPlaced}

@@ -15,6 +15,7 @@ use Rattle.tree_order.specs.Positions.{IsNode}
 use Rattle.tree_order.specs.declared.candidates.Candidate.{Candidate}
 use Rattle.tree_graphs.specs.Asked.{read_of, write_of}
 use Rattle.tree_graphs.specs.Facts.{form_parts, IsFact}
+use Rattle.tree_graphs.specs.Joint.{IsCheckedFor}
 use Rattle.tree_graphs.proofs.Nodes.{checked_test, simple_both, AreBothChecked, AreBothSimple}
 use Rattle.tree_graphs.proofs.MadeRows.{more_made, opposite_made, taken_made}
 use Rattle.tree_sums.specs.Parts.{IsWithin}
@@ -25,9 +26,9 @@ use Rattle.source_tree.specs.declared.tree.Tree.TheViews.{Test}
 
 module _ (context : System) (c : Candidate) (node : Tree) (sums : List (List Term)) (form : Form)
     (yes_tree no_tree : Tree) (is : node ≡ Test form yes_tree no_tree) (h : IsNode context c node sums) where
-  parts : AreBothChecked (read_of c.writes) (write_of c.writes) c.writes.level h.own form yes_tree no_tree
-  parts = checked_test (read_of c.writes) (write_of c.writes) c.writes.level h.own node form yes_tree no_tree
-      h.checked is
+  parts : AreBothChecked (IsCheckedFor (read_of c.writes) (write_of c.writes) c.writes.level) h.own form yes_tree
+      no_tree
+  parts = checked_test h.own node form yes_tree no_tree h.checked is
 
   simple : AreBothSimple h.tests form yes_tree no_tree
   simple = simple_both h.tests node form yes_tree no_tree h.simple is

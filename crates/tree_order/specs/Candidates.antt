@@ -6,12 +6,12 @@ use Rattle.tree_graphs.specs.Closed.{IsClosure}
 use Rattle.tree_graphs.specs.Level.{common_of, HasLevel}
 use Rattle.tree_graphs.specs.Rounds.{IsGraphOf}
 use Rattle.tree_graphs.specs.Simple.{IsSimple}
-use Rattle.tree_graphs.specs.Systems.{IsCheckedFor}
+use Rattle.tree_graphs.specs.Joint.{IsCheckedFor}
 use Rattle.tree_graphs.specs.Contexts.{IsMadeAs}
 use Rattle.tree_order.specs.Reads.{pair_of, pairs_of, pairs_with, IsJoined}
 use Rattle.tree_graphs.specs.Joint.{ReadAndWrite}
 use Rattle.tree_order.specs.declared.candidates.Candidate.{Candidate}
-use Rattle.tree_order.specs.declared.candidates.Problem.{Problem}
+use Rattle.tree_graphs.specs.declared.writes.Problem.{Problem}
 use Rattle.tree_order.specs.declared.candidates.Read.{Read}
 use Rattle.source_tree.specs.Systems.{Context, Occurrence}
 

@@ -15,7 +15,7 @@ use Rattle.tree_graphs.specs.Edges.{AreLevelRows}
 use Rattle.tree_graphs.specs.Facts.{form_parts, IsFact}
 use Rattle.tree_graphs.specs.Paths.{term_of}
 use Rattle.tree_graphs.specs.Simple.{IsLightSum, IsSimple}
-use Rattle.tree_graphs.specs.Systems.{IsCheckedFor}
+use Rattle.tree_graphs.specs.Joint.{IsCheckedFor}
 use Rattle.source_tree.specs.Checked.{IsRefuted}
 use Rattle.source_tree.specs.Rows.{RowExpr, row_forms}
 use Rattle.source_tree.specs.Systems.{Context, with_rows, with_write_at, writer_place}

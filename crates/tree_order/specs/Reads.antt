@@ -1,7 +1,7 @@
 -- A read, and the writes of its array as problems of their own: each has its own domain rows and subscripts, and those of
 -- the read, over the variables of one context.
 use Rattle.std.specs.Prelude.{◌≡◌, ◌≤◌, ◌^◌, ℕ, List, length, map, All, Some, Contains, slice_get}
-use Rattle.tree_order.specs.declared.candidates.Problem.{Problem}
+use Rattle.tree_graphs.specs.declared.writes.Problem.{Problem}
 use Rattle.tree_order.specs.declared.candidates.Read.{Read}
 use Rattle.int_polyhedra.specs.declared.system.System.{System}
 use Rattle.int_polyhedra.specs.Systems.{AreOver}
@@ -20,15 +20,15 @@ abbrev pub read_in : Read → Problem → Occurrence
 read_in r p = record {
   number = r.reference.number;
   statement = r.reference.statement.now;
-  access = record r.reference.access.now { subscripts = p.read_forms.now };
+  access = record r.reference.access.now { subscripts = p.read_forms };
 }
 
 -- the write, with a problem's domain rows and subscripts
 abbrev pub write_in : Problem → Occurrence
 write_in p = record {
   number = p.write.number;
-  statement = record p.write.statement.now { rows = p.rows.now };
-  access = record p.write.access.now { subscripts = p.write_forms.now };
+  statement = record p.write.statement.now { rows = p.rows };
+  access = record p.write.access.now { subscripts = p.write_forms };
 }
 
 -- the read and the write of a problem

@@ -2,23 +2,12 @@ ghost use Rattle.std.specs.Prelude.{◌≡◌};
 ghost use Rattle.tree_order.specs.Candidates.{is_candidate_of, levels_before};
 ghost use Rattle.source_tree.specs.References.{occurrence_of};
 
-use affine_core::{Form, Row};
 use int_polyhedra::System;
 use plain_data::Items;
 use sanlp::common_loops;
 use source_tree::{Reference, Tree};
 use std::alloc::Global;
-use tree_graphs::{Closure, Cycle, Edge, Writes};
-
-/// A write of a read's array, told by differences over the variables of the read's context: `rows` are the writer's domain
-/// rows and `write_forms` its subscripts, over its loops, and `read_forms` those of the read, over the variables.
-#[derive(Clone, Copy)]
-pub struct Problem<'a> {
-    pub write: Reference<'a>,
-    pub rows: &'a [Row],
-    pub write_forms: &'a [Form],
-    pub read_forms: &'a [Form],
-}
+use tree_graphs::{Closure, Cycle, Edge, Problem, Writes};
 
 /// A read, the context in which its candidates are joined, and the writes of its array, one after the other in the text.
 #[derive(Clone, Copy)]

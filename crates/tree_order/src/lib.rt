@@ -14,7 +14,7 @@ mod seen;
 mod walk;
 
 pub use absence::{absence_of, exclusion};
-pub use candidates::{Candidate, Problem, Read, level_count};
+pub use candidates::{Candidate, Read, level_count};
 pub use carry::{carried, carried_behind, copy_rows, own_rows, places};
 pub use compare::{
     Compared, Comparison, Pair, Question, compare_points, test_of_next_loop, unopened,

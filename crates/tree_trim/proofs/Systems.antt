@@ -129,20 +129,20 @@ module _ (c : Context) where
       (before_rows u.number u.statement (writer_place c u) r.number r.statement (reader_place r))
 
   pairs_behind : (pairs : List ReadAndWrite) (further : Occurrence → List (List RowExpr))
-      → write_systems_of pairs c further ≡ map (behind c.rows) (write_systems_of pairs bare further)
+      → write_systems_of every pairs c further ≡ map (behind c.rows) (write_systems_of every pairs bare further)
   pairs_behind pairs further =
       all_behind c.rows (λ (o : ReadAndWrite). write_systems o.read every c further o.write)
       (λ o. write_systems o.read every bare further o.write) (λ o. writes_behind o.read further o.write) pairs
 
-pub zero_behind : (pairs : List ReadAndWrite) → AreBehind (λ c. write_systems_of pairs c no_orders)
+pub zero_behind : (pairs : List ReadAndWrite) → AreBehind (λ c. write_systems_of every pairs c no_orders)
 zero_behind pairs c = pairs_behind c pairs no_orders
 
 pub place_behind : (pairs : List ReadAndWrite) (o : ReadAndWrite) (place : List Form)
-    → AreBehind (place_systems pairs o place)
+    → AreBehind (place_systems every pairs o place)
 place_behind pairs o place c =
     let bare : Context = no_rows c.vars in
-    both_behind c.rows (head_systems o place c) (write_systems_of pairs c (orders_behind o.write place c))
-    (head_systems o place bare) (write_systems_of pairs bare (orders_behind o.write place bare))
+    both_behind c.rows (head_systems o place c) (write_systems_of every pairs c (orders_behind o.write place c))
+    (head_systems o place bare) (write_systems_of every pairs bare (orders_behind o.write place bare))
     (heads_behind c o place) (pairs_behind c pairs (orders_behind o.write place c))
 
 -- Refuted systems

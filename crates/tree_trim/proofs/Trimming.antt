@@ -28,7 +28,7 @@ use Rattle.tree_sums.specs.Parts.{IsWithin}
 use Rattle.tree_sums.proofs.Within.{IsWithin-weaker}
 use Rattle.source_tree.specs.Checked.{AreRefuted}
 use Rattle.source_tree.specs.Rows.{RowExpr, RowSystem, Take, below_zero, row_form, row_forms}
-use Rattle.source_tree.specs.Systems.{Context, dead_systems, test_no, test_yes}
+use Rattle.source_tree.specs.Systems.{dead_systems, every, test_no, test_yes, Context}
 use Rattle.source_tree.specs.declared.tree.Tree.{Tree}
 use Rattle.source_tree.specs.declared.tree.Tree.TheViews.{Test}
 use Rattle.tree_trim.specs.Proofs.{names_row, proof_without, term_without, terms_without}
@@ -64,9 +64,9 @@ module _ (pairs : List ReadAndWrite) (before : List RowExpr) (e : RowExpr) where
       (subst (λ rows. AreRefuted (map (behind rows) own) proofs) at
       (subst (λ ss. AreRefuted ss proofs) (are c) refuted)))
 
-  pub checked_without : (c : Context) (tree : Tree) → IsCheckedForAll pairs c tree → (after : List RowExpr)
+  pub checked_without : (c : Context) (tree : Tree) → IsCheckedForAll every pairs c tree → (after : List RowExpr)
       → c.rows ≡ before ++ e ∷ after → tree_names_row k tree ≡ false
-      → IsCheckedForAll pairs (rows_over c.vars (before ++ after)) (tree_without k tree)
+      → IsCheckedForAll every pairs (rows_over c.vars (before ++ after)) (tree_without k tree)
   checked_without _ _ (at_test c tree form a b is over within first second) after at none =
       let n = or_parts (tree_names_row k a) (tree_names_row k b)
       (sym (names_test k form a b) ∙ ap (tree_names_row k) (sym is) ∙ none) in
@@ -74,11 +74,11 @@ module _ (pairs : List ReadAndWrite) (before : List RowExpr) (e : RowExpr) where
       let other : List RowExpr = below_zero (Take form) ∷ [] in
       at_test (rows_over c.vars (before ++ after)) (tree_without k tree) form (tree_without k a) (tree_without k b)
       (ap (tree_without k) is ∙ without_test k form a b) over within
-      (subst (λ rows. IsCheckedForAll pairs (rows_over c.vars rows) (tree_without k a))
+      (subst (λ rows. IsCheckedForAll every pairs (rows_over c.vars rows) (tree_without k a))
       (sym (append_assoc before after one))
       (checked_without (test_yes c form) a first (after ++ one)
       (ap (λ rows. rows ++ one) at ∙ append_assoc before (e ∷ after) one) n.0))
-      (subst (λ rows. IsCheckedForAll pairs (rows_over c.vars rows) (tree_without k b))
+      (subst (λ rows. IsCheckedForAll every pairs (rows_over c.vars rows) (tree_without k b))
       (sym (append_assoc before after other))
       (checked_without (test_no c form) b second (after ++ other)
       (ap (λ rows. rows ++ other) at ∙ append_assoc before (e ∷ after) other) n.1))
@@ -87,14 +87,14 @@ module _ (pairs : List ReadAndWrite) (before : List RowExpr) (e : RowExpr) where
       sym (names_writer k o.write.number place proofs) ∙ ap (tree_names_row k) (sym is) ∙ none in
       at_writer (rows_over c.vars (before ++ after)) (tree_without k tree) o place (proofs_without k proofs)
       (ap (tree_without k) is ∙ without_writer k o.write.number place proofs) there deep over within
-      (leaf_without (place_systems pairs o place) (place_behind pairs o place) c proofs refuted after at n)
+      (leaf_without (place_systems every pairs o place) (place_behind pairs o place) c proofs refuted after at n)
       (sums_without k proofs sums)
   checked_without _ _ (at_zero c tree proofs is refuted sums) after at none =
       let n : proofs_name k proofs ≡ false =
       sym (names_zero k proofs) ∙ ap (tree_names_row k) (sym is) ∙ none in
       at_zero (rows_over c.vars (before ++ after)) (tree_without k tree) (proofs_without k proofs)
       (ap (tree_without k) is ∙ without_zero k proofs)
-      (leaf_without (λ c. write_systems_of pairs c no_orders) (zero_behind pairs) c proofs refuted after at n)
+      (leaf_without (λ c. write_systems_of every pairs c no_orders) (zero_behind pairs) c proofs refuted after at n)
       (sums_without k proofs sums)
   checked_without _ _ (at_dead c tree proof is refuted) after at none =
       let n : names_row k proof ≡ false = sym (names_dead k proof) ∙ ap (tree_names_row k) (sym is) ∙ none in
@@ -126,11 +126,11 @@ branch_joined pairs context row tree over h none c made =
       vars = made.vars;
       rows = more_made c context.rows (Take row) row made.rows (taken_made c.vars row here);
     } in
-    let less : IsCheckedForAll pairs (rows_over c.vars (c.rows ++ [])) (tree_without (length c.rows) tree) =
+    let less : IsCheckedForAll every pairs (rows_over c.vars (c.rows ++ [])) (tree_without (length c.rows) tree) =
     checked_without pairs c.rows (Take row) (test_yes c row) tree (h (test_yes c row) longer) [] refl
     (ap (λ n. tree_names_row n tree) count ∙ none) in
-    subst (λ n. IsCheckedForAll pairs c (tree_without n tree)) count
-    (subst (λ rows. IsCheckedForAll pairs (rows_over c.vars rows) (tree_without (length c.rows) tree))
+    subst (λ n. IsCheckedForAll every pairs c (tree_without n tree)) count
+    (subst (λ rows. IsCheckedForAll every pairs (rows_over c.vars rows) (tree_without (length c.rows) tree))
     (append-nil c.rows) less)
 
 pub unnamed_joined : (pairs : List ReadAndWrite) (context : System) (k : ℕ) (row : Form) (tree : Tree)

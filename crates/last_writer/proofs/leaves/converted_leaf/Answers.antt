@@ -2,12 +2,13 @@
 use Rattle.std.proofs.Common.{refl, sym, subst, arith}
 use Rattle.std.specs.Prelude.{All}
 use Rattle.tree_graphs.specs.Joint.{no_orders, write_systems_of, IsSum}
+use Rattle.tree_graphs.proofs.Nodes.{checked_zero, point_for}
 use Rattle.last_writer.proofs.FactLeaves.{dead_away, leaf_below, rows_before}
 use Rattle.last_writer.proofs.TreeConversion.{dead_converts, point_converts, zero_converts}
-use Rattle.last_writer.proofs.Nodes.{joined_point, joined_zero}
 use Rattle.last_writer.proofs.Opens.{checked_kinds}
 use Rattle.last_writer.specs.Leaves.{fact_context, pairs_of, IsBelow, IsJoinedPoint}
 use Rattle.source_tree.specs.Checked.{AreRefuted}
+use Rattle.source_tree.specs.Systems.{every}
 use Rattle.source_tree.specs.declared.tree.Tree.TheVariants.{Dead, Writer, Zero}
 use Rattle.last_writer.proofs.leaves.converted_leaf.Goals as goal
 
@@ -28,7 +29,7 @@ point_proofs-own-requires-clause-point c =
       c.in-Writer.place,
       subst (λ n. IsBelow w n cx) (sym c.rows_without-here.ensures) h.below,
       subst (IsJoinedPoint w cx c.in-Writer.number c.in-Writer.place) (sym c.as_slice.ensures)
-          (joined_point w cx c.args.leaf c.in-Writer.number c.in-Writer.place c.in-Writer.proofs h.checked c.in-Writer.is),
+          (point_for cx c.args.leaf c.in-Writer.number c.in-Writer.place c.in-Writer.proofs h.checked c.in-Writer.is),
     )
 
 pub none_proofs-own-requires-clause-leaf : goal.none_proofs-own-requires-clause-leaf
@@ -41,7 +42,7 @@ none_proofs-own-requires-clause-sums c =
     let w = c.args.w.now in
     let h = c.requires.leaf.0 in
     subst (All IsSum) (sym c.as_slice-in-Zero.ensures)
-    (joined_zero (pairs_of w) (fact_context w h.rest) c.args.leaf c.in-Zero.proofs h.checked c.in-Zero.is).1
+    (checked_zero (fact_context w h.rest) c.args.leaf c.in-Zero.proofs h.checked c.in-Zero.is).1
 
 pub without_facts-requires-clause-leaf : goal.without_facts-requires-clause-leaf
 without_facts-requires-clause-leaf c =
@@ -66,8 +67,8 @@ returns-in_ok-own-in-Zero c =
     zero_converts w c.args.here c.args.leaf (Zero own) c.in-Zero.proofs own c.in-Zero.is refl
     (λ rest below refuted. c.in_ok-own-in-Zero.ensures rest
     (subst (λ n. IsBelow w n (fact_context w rest)) (sym c.rows_without-here.ensures) below)
-    (subst (AreRefuted (write_systems_of (pairs_of w) (fact_context w rest) no_orders)) (sym c.as_slice-in-Zero.ensures)
-    refuted))
+    (subst (AreRefuted (write_systems_of every (pairs_of w) (fact_context w rest) no_orders))
+    (sym c.as_slice-in-Zero.ensures) refuted))
 
 pub returns-in_ok-without_facts-in-Dead : goal.returns-in_ok-without_facts-in-Dead
 returns-in_ok-without_facts-in-Dead c =

@@ -6,8 +6,8 @@ use Rattle.std.proofs.lemmas.List.Elements.{All-drop, All-take}
 use Rattle.tree_graphs.specs.Joint.{orders_behind, IsSum}
 use Rattle.last_writer.proofs.JointTrees.{few_loops}
 use Rattle.last_writer.proofs.LeafConversion.{few_after}
-use Rattle.last_writer.proofs.WriterLeaves.{back_is, cells_inside, first, front_is, is_place, is_told_here, leaf_writer, of}
-use Rattle.last_writer.proofs.WriterLeaves.{orders_long, own_point, place_count, writer_fits}
+use Rattle.last_writer.proofs.WriterLeaves.{back_is, cell_count, cells_inside, first, front_is, is_place, is_told_here, leaf_writer, of}
+use Rattle.last_writer.proofs.WriterLeaves.{orders_long, own_point, writer_fits}
 use Rattle.last_writer.specs.Leaves.{after_orders, fact_context, own_context, told_place_systems, AddsProofs}
 use Rattle.source_tree.specs.Checked.{AreRefuted}
 use Rattle.source_tree.specs.Systems.{with_rows}
@@ -69,7 +69,7 @@ place_proofs-requires-clause-count c =
     let x = c.writer_at-writer.result.now in
     ap length (c.front-cells.ensures ∙ front_is w c.args.here p.0 c.args.number p.1 c.args.told.now x c.requires.leaf.answered
     p.2 p.3 c.writer_at-writer.ensures.among c.writer_at-writer.ensures.number c.cell_count-count.result c.cell_count-count.ensures)
-    ∙ place_count w c.args.here p.0 c.args.number p.1 c.args.told.now x c.requires.leaf.answered p.2 p.3
+    ∙ cell_count w c.args.here p.0 c.args.number p.1 c.args.told.now x c.requires.leaf.answered p.2 p.3
     c.writer_at-writer.ensures.among c.writer_at-writer.ensures.number
 
 pub push_sums-requires-clause-counts : goal.push_sums-requires-clause-counts

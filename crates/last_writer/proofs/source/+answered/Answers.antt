@@ -34,11 +34,11 @@ answered-joined-requires-clause-few t c =
 
 pub answered-answered_next-requires : goal.answered-answered_next-requires
 answered-answered_next-requires t c =
-    (omega arith, (c.requires.answered, (c.requires.told, (c.requires.made, (c.requires.rows, (c.requires.count, c.in-Some.ensures))))))
+    (omega arith, (c.requires.answered, (c.requires.made, (c.requires.rows, (c.requires.count, c.in-Some.ensures)))))
 
 pub answered-answered_next-requires-2 : goal.answered-answered_next-requires-2
 answered-answered_next-requires-2 t c =
-    (omega arith, (c.requires.answered, (c.requires.told, (c.requires.made, (c.requires.rows, (c.requires.count, c.in-Some.ensures))))))
+    (omega arith, (c.requires.answered, (c.requires.made, (c.requires.rows, (c.requires.count, c.in-Some.ensures)))))
 
 pub answered-divides-requires-clause-wider : goal.answered-divides-requires-clause-wider
 answered-divides-requires-clause-wider t c =
@@ -138,14 +138,11 @@ answered_next-answered-requires t c =
       (
         answers_more w _ answer h within refl refl refl refl more,
         (
-          c.requires.told,
+          made_more w c.as_slice.result.now test answer c.in_ok-next.next at more
+              (c.in_ok-next.ensures.made (context_of w) c.requires.made),
           (
-            made_more w c.as_slice.result.now test answer c.in_ok-next.next at more
-                (c.in_ok-next.ensures.made (context_of w) c.requires.made),
-            (
-              c.in_ok-next.ensures.rows,
-              omega (arith, c.in_ok-next.ensures.count, c.requires.count, one),
-            ),
+            c.in_ok-next.ensures.rows,
+            omega (arith, c.in_ok-next.ensures.count, c.requires.count, one),
           ),
         ),
       ),

@@ -2,29 +2,18 @@
 -- nest once its proofs are those for all writers.
 use Rattle.std.proofs.Common.{◌≡◌, [], length, sym, ap, ◌∙◌, subst, arith}
 use Rattle.std.proofs.lemmas.List.{append-nil}
-use Rattle.std.proofs.lemmas.List.Elements.{All-weaker}
 use Rattle.std.proofs.lemmas.Result.{IfOk-weaker}
 use Rattle.int_polyhedra.specs.declared.system.System.{System}
 use Rattle.last_writer.proofs.JointTrees.{below_here, joined_below, pairs_joined, read_joined}
-use Rattle.last_writer.proofs.LeafConversion.{zip_count}
 use Rattle.stride_trees.specs.Answers.{HasSmallRows}
 use Rattle.last_writer.specs.Leaves.{context_of}
-use Rattle.last_writer.specs.Writers.{IsPlaceOf, IsWriterOf}
 use Rattle.last_writer.proofs.source.joined_in.Goals as goal
 use Rattle.source_tree.specs.Checked.{IsCheckedIn}
 use Rattle.source_tree.specs.References.{occurrence_of}
 use Rattle.source_tree.specs.Systems.{every}
 
-pub push_problems-requires-clause-places : goal.push_problems-requires-clause-places
-push_problems-requires-clause-places c =
-    let w = c.args.w.now in
-    All-weaker (IsWriterOf w.nest.now (occurrence_of w.read) w.tests.now) (λ x. length x.divisions ≡ length x.places)
-    (λ x of. zip_count (IsPlaceOf w.tests.now) x.divisions x.places of.places) w.writers.now
-    c.requires.answered.writers.each
-
-pub push_problems-requires-clause-few : goal.push_problems-requires-clause-few
-push_problems-requires-clause-few c =
-    omega (arith, c.requires.answered.answers, c.requires.answered.few)
+pub push_problems-requires-clause-writers : goal.push_problems-requires-clause-writers
+push_problems-requires-clause-writers c = c.requires.answered.writers.each
 
 pub join-requires : goal.join-requires
 join-requires c =
@@ -35,8 +24,8 @@ join-requires c =
     (c.requires.made.vars ∙ sym (ap (λ (s : System). s.vars) read.context))
     (subst HasSmallRows (sym read.context) c.requires.rows)
     (omega (arith, ap (λ (s : System). length s.rows) read.context, c.requires.few))
-    (pairs_joined w r c.new-problems.result c.push_problems.new.problems c.as_slice.result.now c.args.told.now
-    c.requires.answered c.requires.told read.reference read.problems c.as_slice.ensures c.new-problems.ensures
+    (pairs_joined w r c.new-problems.result c.push_problems.new.problems c.as_slice.result.now
+    read.reference read.problems c.as_slice.ensures c.new-problems.ensures
     c.in_ok-push_problems.ensures)
 
 pub converted-requires-clause-tree : goal.converted-requires-clause-tree
@@ -44,8 +33,8 @@ converted-requires-clause-tree c =
     let w = c.args.w.now in
     let r = c.read_with-read.result in
     let read = c.read_with-read.ensures in
-    let pairs = pairs_joined w r c.new-problems.result c.push_problems.new.problems c.as_slice.result.now c.args.told.now
-    c.requires.answered c.requires.told read.reference read.problems c.as_slice.ensures c.new-problems.ensures
+    let pairs = pairs_joined w r c.new-problems.result c.push_problems.new.problems c.as_slice.result.now
+    read.reference read.problems c.as_slice.ensures c.new-problems.ensures
     c.in_ok-push_problems.ensures in
     let below = below_here w c.args.there.now c.len.result c.len.ensures c.requires.all c.requires.made c.requires.rows in
     let checked = joined_below w r c.args.there.now c.in_ok-tree.tree c.requires.made read.context pairs
@@ -57,8 +46,8 @@ returns c =
     let w = c.args.w.now in
     let r = c.read_with-read.result in
     let read = c.read_with-read.ensures in
-    let pairs = pairs_joined w r c.new-problems.result c.push_problems.new.problems c.as_slice.result.now c.args.told.now
-    c.requires.answered c.requires.told read.reference read.problems c.as_slice.ensures c.new-problems.ensures
+    let pairs = pairs_joined w r c.new-problems.result c.push_problems.new.problems c.as_slice.result.now
+    read.reference read.problems c.as_slice.ensures c.new-problems.ensures
     c.in_ok-push_problems.ensures in
     let below = below_here w c.args.there.now c.len.result c.len.ensures c.requires.all c.requires.made c.requires.rows in
     let checked = joined_below w r c.args.there.now c.in_ok-tree.tree c.requires.made read.context pairs

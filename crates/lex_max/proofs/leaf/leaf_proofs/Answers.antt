@@ -7,7 +7,7 @@ use Rattle.tree_graphs.specs.Asked.{read_of, write_of}
 use Rattle.lex_max.specs.Choices.{chosen_place}
 use Rattle.lex_max.specs.Leaves.{AreOrderCerts, AreShown, IsLeafOf}
 use Rattle.tree_graphs.specs.Simple.{IsLightSum}
-use Rattle.tree_graphs.specs.Systems.{place_systems}
+use Rattle.tree_graphs.specs.Joint.{point_systems}
 use Rattle.lex_max.proofs.LevelProofs.{cells_part, leaf_here, leaf_refuted, many, many_behind, order_part}
 use Rattle.lex_max.proofs.LevelProofs.{outside_part, plain_here}
 use Rattle.lex_max.proofs.LeafProofs.{plain_of}
@@ -97,7 +97,7 @@ push_between-requires-clause-here c = omega (arith, c.requires.context.few, c.le
 
 both : (c : goal.In_ok-push_between) (cx : Context)
     → IsLeafOf c.args.w.now cx c.args.context.now (chosen_place c.args.choices.now) c.len-here.result
-    → AreRefuted (place_systems (read_of c.args.w.now) (write_of c.args.w.now) c.args.w.now.level cx
+    → AreRefuted (point_systems (read_of c.args.w.now) (write_of c.args.w.now) c.args.w.now.level cx
     (chosen_place c.args.choices.now))
     c.push_between.new.proofs × All IsLightSum c.push_between.new.proofs
 both c cx leaf =

@@ -4,7 +4,7 @@ use Rattle.std.proofs.lemmas.List.{nil_from_length}
 use Rattle.std.proofs.lemmas.List.Elements.{All-head, All-tail}
 use Rattle.std.proofs.lemmas.Result.{on_ok_weaker}
 use Rattle.tree_sums.specs.Parts.{IsWithin}
-use Rattle.stride_trees.specs.Contexts.{IsSum}
+use Rattle.tree_graphs.specs.Joint.{IsSum}
 use Rattle.stride_trees.proofs.ProofConversion.{outside_end, outside_next, outside_odd}
 use Rattle.stride_trees.proofs.convert.+push_outside.Goals as goal
 

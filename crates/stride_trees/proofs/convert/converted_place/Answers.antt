@@ -2,7 +2,7 @@ use Rattle.std.proofs.Common.{◌^◌, length, take, drop, sym, ap, subst, arith
 use Rattle.std.specs.Prelude.{All}
 use Rattle.std.proofs.lemmas.List.{take-append-drop}
 use Rattle.tree_sums.specs.Parts.{IsWithin}
-use Rattle.stride_trees.specs.Contexts.{IsSum}
+use Rattle.tree_graphs.specs.Joint.{IsSum}
 use Rattle.stride_trees.proofs.ProblemBounds.{all_within}
 use Rattle.stride_trees.proofs.LeafConversion.{all_parts}
 use Rattle.stride_trees.proofs.TestNodes.{fitting_of}

@@ -1,13 +1,10 @@
 -- Each branch of a Test is made in its own context, which has one row more; a leaf is made at once.
-use Rattle.std.proofs.Common.{◌+◌, refl, sym, subst, rules}
+use Rattle.std.proofs.Common.{◌+◌, sym, subst, rules}
 use Rattle.std.proofs.lemmas.Result.{IfOk-weaker}
 use Rattle.tree_graphs.specs.Simple.{IsSimple}
-use Rattle.tree_graphs.specs.Systems.{IsCheckedFor}
 use Rattle.source_tree.specs.declared.tree.Tree.TheViews.{the_lemmas}
 use Rattle.stride_trees.specs.Contexts.{IsConvertedTree}
-use Rattle.stride_trees.specs.Problem.{told_read, told_write}
-use Rattle.stride_trees.specs.Strides.{read_of, write_of}
-use Rattle.stride_trees.proofs.LeafConversion.{branches_made, test_made}
+use Rattle.stride_trees.proofs.LeafConversion.{branches_made, test_made, IsToldIn}
 use Rattle.source_tree.proofs.Views.{kept_test}
 use Rattle.stride_trees.proofs.leaves.+converted_tree.Goals as goal
 
@@ -28,8 +25,7 @@ converted_tree-requires t c =
             (
               b.first,
               b.first_at,
-              subst (IsCheckedFor (told_read b.first.vars c.args.places.now (read_of s) (write_of s))
-                  (told_write (write_of s)) s.level b.first) (sym c.get.ensures) b.first_checked,
+              subst (IsToldIn s c.args.places.now b.first.vars b.first) (sym c.get.ensures) b.first_checked,
             ),
             (b.fewer, b.few, subst (IsSimple b.fewer) (sym c.get.ensures) b.first_simple),
           ),
@@ -54,8 +50,7 @@ converted_tree-requires-in-Test t c =
             (
               b.second,
               b.second_at,
-              subst (IsCheckedFor (told_read b.second.vars c.args.places.now (read_of s) (write_of s))
-                  (told_write (write_of s)) s.level b.second) (sym c.get-in-Test.ensures) b.second_checked,
+              subst (IsToldIn s c.args.places.now b.second.vars b.second) (sym c.get-in-Test.ensures) b.second_checked,
             ),
             (b.fewer, b.few, subst (IsSimple b.fewer) (sym c.get-in-Test.ensures) b.second_simple),
           ),
@@ -66,15 +61,12 @@ converted_tree-requires-in-Test t c =
 pub returns-in-Ok : goal.returns-in-Ok
 returns-in-Ok t c =
     let s = c.args.s.now in
-    let m = c.requires.simple in
     IfOk-weaker c.test.result _ _
-    (λ own is. test_made s c.args.places.now c.args.here c.args.tree.now c.get-form.result c.get-form.result
-    c.in-Test.yes
-    c.in-Test.no c.in_ok-above-in-Test.above c.in-Ok.below own m.0
+    (λ own is. test_made s c.args.places.now c.args.here c.args.tree.now c.get-form.result c.in-Test.yes
+    c.in-Test.no c.in_ok-above-in-Test.above c.in-Ok.below own
     (kept_test c.in-Test.yes c.in-Test.no c.in-Test.is c.get-form.ensures)
-    refl
     (subst (λ told. IsConvertedTree s c.args.places.now (c.args.here + 1) told c.in_ok-above-in-Test.above) c.get.ensures
     c.in_ok-above-in-Test.ensures)
     (subst (λ told. IsConvertedTree s c.args.places.now (c.args.here + 1) told c.in-Ok.below) c.get-in-Test.ensures
-    (rw c.in-Ok.is at c.converted_tree-in-Test.ensures)) is m.2)
+    (rw c.in-Ok.is at c.converted_tree-in-Test.ensures)) is)
     c.test.ensures

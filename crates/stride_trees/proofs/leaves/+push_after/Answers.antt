@@ -1,7 +1,7 @@
 use Rattle.std.proofs.Common.{◌≡◌, ◌∷◌, length, ap, subst, arith, rules}
 use Rattle.std.specs.Prelude.{All}
 use Rattle.std.proofs.lemmas.List.Elements.{All-head, All-tail}
-use Rattle.stride_trees.specs.Contexts.{IsSum}
+use Rattle.tree_graphs.specs.Joint.{IsSum}
 use Rattle.stride_trees.proofs.leaves.+push_after.Goals as goal
 
 pub sum_terms-requires : goal.sum_terms-requires

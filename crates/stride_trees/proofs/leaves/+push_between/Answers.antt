@@ -3,7 +3,7 @@ use Rattle.std.specs.Prelude.{All}
 use Rattle.std.proofs.lemmas.List.{nil_from_length}
 use Rattle.std.proofs.lemmas.List.Elements.{All-head, All-tail}
 use Rattle.std.proofs.lemmas.Result.{on_ok_weaker}
-use Rattle.stride_trees.specs.Contexts.{IsSum}
+use Rattle.tree_graphs.specs.Joint.{IsSum}
 use Rattle.stride_trees.proofs.ProofConversion.{between_end, between_next}
 use Rattle.stride_trees.proofs.leaves.+push_between.Goals as goal
 

@@ -1,7 +1,6 @@
 use Rattle.std.proofs.Common.{◌++◌, refl, ap, ◌∙◌}
 use Rattle.stride_trees.proofs.LeafConversion.{writer_converted}
-use Rattle.tree_graphs.proofs.Nodes.{checked_point, simple_point}
-use Rattle.stride_trees.proofs.ProofConversion.{light_sums}
+use Rattle.tree_graphs.proofs.Nodes.{checked_point, light_sums, simple_point}
 use Rattle.stride_trees.specs.Problem.{told_read, told_write}
 use Rattle.stride_trees.specs.Strides.{read_of, write_of}
 use Rattle.source_tree.specs.declared.tree.Tree.TheVariants.{Writer}
@@ -24,6 +23,6 @@ writer_proofs-requires-clause-told c =
 
 pub returns-in-Ok : goal.returns-in-Ok
 returns-in-Ok c =
-    writer_converted c.args.s.now c.args.places.now c.args.here c.args.statement c.args.place.now c.push_forms.new.out
-    c.args.told.now c.in_ok-proofs.proofs (Writer c.args.statement c.push_forms.new.out c.in_ok-proofs.proofs)
+    writer_converted c.args.s.now c.requires.strided c.args.places.now c.args.here c.args.statement c.args.place.now
+    c.push_forms.new.out c.args.told.now c.in_ok-proofs.proofs (Writer c.args.statement c.push_forms.new.out c.in_ok-proofs.proofs)
     ((rw c.in-Ok.is at c.push_forms.ensures) ∙ ap (λ xs. xs ++ c.args.place.now) c.new-forms.ensures) refl c.in_ok-proofs.ensures.refuted c.in_ok-proofs.ensures.cuts

@@ -1,8 +1,8 @@
 use Rattle.std.proofs.Common.{ℕ, List, ◌+◌, ◌-◌, ◌*◌, length, take, drop, sym, ap, subst, arith, length-drop}
 use Rattle.std.specs.Prelude.{All}
 use Rattle.std.proofs.lemmas.List.{length-take-le, take-append-drop}
+use Rattle.tree_graphs.specs.Joint.{IsSum}
 use Rattle.int_polyhedra.specs.declared.system.Proof.{Proof}
-use Rattle.stride_trees.specs.Contexts.{IsSum}
 use Rattle.stride_trees.proofs.LeafConversion.{all_parts}
 use Rattle.stride_trees.proofs.ProofParts.{enough, leaf_cuts, leaf_refuted}
 use Rattle.stride_trees.proofs.TestNodes.{fitting_of}

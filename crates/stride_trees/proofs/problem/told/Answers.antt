@@ -1,19 +1,25 @@
-use Rattle.std.proofs.Common.{refl}
+use Rattle.std.proofs.Common.{refl, ◌∙◌}
 use Rattle.stride_trees.specs.Strides.{read_of, write_of}
 use Rattle.stride_trees.proofs.QuotientProblem.{told_asked, told_reader, told_writer}
 use Rattle.stride_trees.proofs.problem.told.Goals as goal
 
 pub returns-clause-read : goal.returns-clause-read
-returns-clause-read c places e = told_reader (read_of c.args.s.now) (write_of c.args.s.now) c.args.vars places c.args.reads.now e
+returns-clause-read c places of =
+    told_reader (read_of c.args.s.now) (write_of c.args.s.now) c.args.vars places c.as_slice-3.result.now
+    (c.as_slice-3.ensures ∙ of.read_forms)
 
 pub returns-clause-write : goal.returns-clause-write
 returns-clause-write c =
-    told_writer (write_of c.args.s.now) c.args.rows.now c.args.writes.now c.requires.rows c.requires.writes
+    let of = c.requires.told.2 in
+    told_writer (write_of c.args.s.now) c.as_slice.result.now c.as_slice-2.result.now (c.as_slice.ensures ∙ of.rows)
+    (c.as_slice-2.ensures ∙ of.write_forms)
 
 pub returns-clause-asked : goal.returns-clause-asked
 returns-clause-asked c =
     let s = c.args.s.now in
-    let h = c.requires.reads in
+    let h = c.requires.told in
     told_asked s c.requires.strided _ c.args.vars h.0 h.1
-    (told_reader (read_of s) (write_of s) c.args.vars h.0 c.args.reads.now h.2)
-    (told_writer (write_of s) c.args.rows.now c.args.writes.now c.requires.rows c.requires.writes) refl refl refl
+    (told_reader (read_of s) (write_of s) c.args.vars h.0 c.as_slice-3.result.now
+    (c.as_slice-3.ensures ∙ h.2.read_forms))
+    (told_writer (write_of s) c.as_slice.result.now c.as_slice-2.result.now (c.as_slice.ensures ∙ h.2.rows)
+    (c.as_slice-2.ensures ∙ h.2.write_forms)) refl refl refl

@@ -17,9 +17,11 @@ returns-in_default t c place point =
     let r = c.args.state.now.read.now in
     let none : c.args.problems.now ≡ [] = nil_from_length c.args.problems.now c.in_default.ensures.cases in
     no_refutations c.args.state.now.context.now
-    (λ cx. write_systems_of (pairs_with r c.args.problems.now) cx (orders_behind (write_of c.args.best.now.candidate.now.writes) place cx))
+    (λ cx. write_systems_of every (pairs_with r c.args.problems.now) cx
+    (orders_behind (write_of c.args.best.now.candidate.now.writes) place cx))
     c.args.proofs.now c.args.proofs.now refl
-    (λ cx. ap (λ ps. write_systems_of (pairs_with r ps) cx (orders_behind (write_of c.args.best.now.candidate.now.writes) place cx)) none)
+    (λ cx. ap (λ ps. write_systems_of every (pairs_with r ps) cx
+    (orders_behind (write_of c.args.best.now.candidate.now.writes) place cx)) none)
 
 pub push_writer-requires-clause-problem : goal.push_writer-requires-clause-problem
 push_writer-requires-clause-problem t c =
@@ -48,8 +50,11 @@ returns t c =
     (λ rest place point.
     both_refutations c.args.state.now.context.now
     (λ cx. write_systems (read_in r p) every cx (orders_behind (write_of c.args.best.now.candidate.now.writes) place cx) (write_in p))
-    (λ cx. write_systems_of (pairs_with r problems) cx (orders_behind (write_of c.args.best.now.candidate.now.writes) place cx))
-    (λ cx. write_systems_of (pairs_with r c.args.problems.now) cx (orders_behind (write_of c.args.best.now.candidate.now.writes) place cx))
+    (λ cx. write_systems_of every (pairs_with r problems) cx
+    (orders_behind (write_of c.args.best.now.candidate.now.writes) place cx))
+    (λ cx. write_systems_of every (pairs_with r c.args.problems.now) cx
+    (orders_behind (write_of c.args.best.now.candidate.now.writes) place cx))
     c.args.proofs.now c.push_writer.new.proofs c.push_between.new.proofs
-    (λ cx. ap (λ ps. write_systems_of (pairs_with r ps) cx (orders_behind (write_of c.args.best.now.candidate.now.writes) place cx)) first)
+    (λ cx. ap (λ ps. write_systems_of every (pairs_with r ps) cx
+    (orders_behind (write_of c.args.best.now.candidate.now.writes) place cx)) first)
     (c.in_ok-push_writer.ensures place point) (rest place point)) c.push_between.ensures

@@ -16,9 +16,9 @@ returns-in_default t c =
     let r = c.args.state.now.read.now in
     let none : c.args.problems.now ≡ [] = nil_from_length c.args.problems.now c.in_default.ensures.cases in
     no_refutations c.args.state.now.context.now
-    (λ cx. write_systems_of (pairs_with r c.args.problems.now) cx no_orders)
+    (λ cx. write_systems_of every (pairs_with r c.args.problems.now) cx no_orders)
     c.args.proofs.now c.args.proofs.now refl
-    (λ cx. ap (λ ps. write_systems_of (pairs_with r ps) cx no_orders) none)
+    (λ cx. ap (λ ps. write_systems_of every (pairs_with r ps) cx no_orders) none)
 
 pub push_writer_without-requires-clause-problem : goal.push_writer_without-requires-clause-problem
 push_writer_without-requires-clause-problem t c =
@@ -47,8 +47,8 @@ returns t c =
     (λ rest.
     both_refutations c.args.state.now.context.now
     (λ cx. write_systems (read_in r p) every cx no_orders (write_in p))
-    (λ cx. write_systems_of (pairs_with r problems) cx no_orders)
-    (λ cx. write_systems_of (pairs_with r c.args.problems.now) cx no_orders)
+    (λ cx. write_systems_of every (pairs_with r problems) cx no_orders)
+    (λ cx. write_systems_of every (pairs_with r c.args.problems.now) cx no_orders)
     c.args.proofs.now c.push_writer_without.new.proofs c.push_without.new.proofs
-    (λ cx. ap (λ ps. write_systems_of (pairs_with r ps) cx no_orders) first)
+    (λ cx. ap (λ ps. write_systems_of every (pairs_with r ps) cx no_orders) first)
     c.in_ok-push_writer_without.ensures rest) c.push_without.ensures

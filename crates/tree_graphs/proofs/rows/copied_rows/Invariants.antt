@@ -1,5 +1,5 @@
 use Rattle.std.proofs.Common.{◌≡◌, take}
-use Rattle.last_writer.proofs.source.copy_rows.Given as goal
+use Rattle.tree_graphs.proofs.rows.copied_rows.Given as goal
 
 abbrev pub invariant-loop-row : goal.invariant-loop-row
 invariant-loop-row l = l.copies ≡ take l.row-index l.rows

@@ -1,4 +1,4 @@
-ghost use Rattle.std.specs.Prelude.{◌≡◌, ◌≤◌, length, take, IfOk, IfSome, Some};
+ghost use Rattle.std.specs.Prelude.{◌≡◌, ◌≤◌, pos, length, slice_index_or, take, IfOk, IfSome, Some};
 ghost use Rattle.std.specs.Result.{result_ok};
 ghost use Rattle.affine_core.specs.Affine.{form_at};
 ghost use Rattle.affine_core.specs.Kept.{IsShort, kept_form};
@@ -99,6 +99,25 @@ impl KeptForm {
                 let numbers = numbers.get();
                 add_products(numbers.constant, numbers.coefs.as_slice(), at)
             }
+        }
+    }
+
+    /// The coefficient of a variable, or 0 where the form has none of it, if it has 64 bits. It takes no memory.
+    pub fn coefficient_in_64_bits(&self, variable: usize) -> Option<i64>
+        ensures { IfSome result (λ coef. coef ≡ slice_index_or self.now.coefs variable (pos 0)) }
+    {
+        match &self.numbers {
+            Numbers::Narrow(count, _, coefs) => {
+                let coefs = &coefs[..usize::from(*count)];
+                match coefs.get(variable) {
+                    Some(coef) => Some(i64::from(*coef)),
+                    None => Some(0),
+                }
+            }
+            Numbers::Wide(numbers) => match numbers.get().coefs.as_slice().get(variable) {
+                Some(coef) => i64::try_from(*coef).ok(),
+                None => Some(0),
+            },
         }
     }
 

@@ -29,12 +29,6 @@ start_limit = 2305843009213693952
 abbrev pub line_at : Line → ℤ → ℤ
 line_at line turn = line.value +ℤ (turn *ℤ line.step)
 
--- these are the first two values of the line, whose step is small
-pub record IsThrough (value next : ℤ) (line : Line) : Type 0 where
-  pub first : line.value ≡ value
-  pub step : line.step ≡ next -ℤ value
-  pub small : unsigned_abs line.step ≤ step_limit
-
 -- what is there at each turn is the value of the line, whose step is small
 pub record IsLine (there : ℤ → Option ℤ) (line : Line) : Type 0 where
   pub small : unsigned_abs line.step ≤ step_limit

@@ -1,6 +1,6 @@
 ghost use Rattle.std.specs.Prelude.{◌≡◌, ◌<◌, ◌≤◌, ◌≤ℤ◌, ◌+ℤ◌, ◌-ℤ◌, ◌*ℤ◌, ◌++◌, ℤ, pos, negsuc, [], ◌∷◌, int_le, length, unsigned_abs, IfSome};
 ghost use Rattle.affine_core.specs.Within.{value_in_128_bits};
-ghost use Rattle.tree_eval.specs.Stretches.{IsLine, IsThrough, line_at, step_limit};
+ghost use Rattle.tree_eval.specs.Stretches.{IsLine, line_at, step_limit};
 
 use affine_core::{KeptForm, KeptValues};
 
@@ -14,31 +14,21 @@ pub(crate) struct Line {
 /// How large a step is at most.
 const STEP_LIMIT: u64 = 1_073_741_824;
 
-// The line with these first two values, if its step is small.
-fn line_through(value: i64, next: i64) -> Option<Line>
-    ensures { IfSome result (IsThrough value next) }
-{
-    let step = next.checked_sub(value)?;
-    if step.unsigned_abs() <= STEP_LIMIT {
-        Some(Line { value, step })
-    } else {
-        None
-    }
-}
-
-/// The form's values along the innermost loop from its first turn on, if its step is small and the first two need no number of
-/// more than 64 bits. These are the values of the loops round it.
+/// The form's values along the innermost loop from its first turn on, if its step, the coefficient of that loop, is small and
+/// the first value needs no number of more than 64 bits. These are the values of the loops round it.
 pub(crate) fn line_of(form: &KeptForm, outer: &[i64], first: i64) -> Option<Line>
     requires { length outer.now < 6 }
     ensures { IfSome result
         (IsLine (λ turn. value_in_128_bits form.now (outer.now ++ (first +ℤ turn) ∷ []))) }
 {
-    let second = first.checked_add(1)?;
     let here = KeptValues::extended(outer, first);
     let value = form.eval_in_64_bits(here.as_slice())?;
-    let there = KeptValues::extended(outer, second);
-    let next = form.eval_in_64_bits(there.as_slice())?;
-    line_through(value, next)
+    let step = form.coefficient_in_64_bits(outer.len())?;
+    if step.unsigned_abs() <= STEP_LIMIT {
+        Some(Line { value, step })
+    } else {
+        None
+    }
 }
 
 // For how many turns a number that isn't negative stays so: at most so many.

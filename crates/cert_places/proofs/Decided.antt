@@ -1,25 +1,18 @@
 -- A refusal of the whole text is one of its parts, but for `Long`, and so it is decided by the lines up to its own.
-use Rattle.std.proofs.Common.{◌≡◌, ◌≢◌, ℕ, Option, Some, None, List, Result, Ok, Err, sym, ap, ◌∙◌}
-use Rattle.std.proofs.Common.{arith}
+use Rattle.std.proofs.Common.{◌≡◌, ◌≢◌, ℕ, ◌+◌, Option, Some, None, List, [], ◌∷◌, ◌++◌, Result, Ok, Err, length}
+use Rattle.std.proofs.Common.{length-append, refl, sym, ap, subst, ◌∙◌, arith}
+use Rattle.std.proofs.lemmas.List.Elements.{All-append, All-cons, All-nil}
 use Rattle.net_core.specs.declared.network.Network.{Network}
 use Rattle.source_tree.specs.declared.cert.Cert.{Cert}
 use Rattle.cert_lines.specs.declared.error.CertError.{CertError}
 use Rattle.cert_lines.specs.declared.error.CertError.TheVariants.{Line, Number, Deep, Long}
-use Rattle.cert_lines.specs.Reading.{Place, found}
-use Rattle.cert_text.specs.Folding.{Folded, cert_of, network_of, scripts, too_long}
+use Rattle.cert_lines.specs.Reading.{found}
+use Rattle.cert_text.specs.Folding.{cert_of, network_of, scripts, too_long}
 use Rattle.cert_text.specs.Reading.{pair_unless, reading, unfolded, whole_text}
 use Rattle.cert_text.specs.StandsFor.{StandsFor}
-use Rattle.cert_places.specs.Fronts.{BeginsWith, IsDecidedBy}
-use Rattle.cert_places.proofs.LineTypes.{Version}
-use Rattle.cert_places.proofs.Taking.{Refuses}
-use Rattle.cert_places.proofs.TextLines.{whole_stops}
-
-abbrev pub start : List ℕ → Place
-start text = record { line = 1; text = text }
-
--- the whole text is refused so, unless it is too long
-abbrev pub Kept : Type 0
-Kept = (Version × Folded) × Place
+use Rattle.cert_places.specs.Fronts.{BeginsWith, IsDecidedBy, IsLine, lines_text}
+use Rattle.cert_places.proofs.Shapes.{Alike, Fate, Last, Stop, Told, grouped}
+use Rattle.cert_places.proofs.Texts.{Kept, TextShape, start, text_fate}
 
 long_or_not : (o : Option ℕ) (n : Network) (c : Cert) (refusal : CertError) → ((p : ℕ) → refusal ≢ Long p)
     → pair_unless o n c ≡ Err refusal → ⊥
@@ -40,36 +33,49 @@ pub whole_refused : (text : List ℕ) (refusal : CertError) → ((p : ℕ) → r
 unfolding reading
 whole_refused text refusal other e = refused_part (whole_text (start text)) refusal other e
 
+-- where the whole text stops
+abbrev pub TextStop : List ℕ → CertError → Type 0
+TextStop text = Stop whole_text TextShape (start text)
+
+pub text_stop : (text : List ℕ) (refusal : CertError) → whole_text (start text) ≡ Err refusal → TextStop text refusal
+text_stop text refusal e =
+    subst (λ (read : Result Kept CertError). Fate Last whole_text TextShape (start text) read) e (text_fate text)
+
 module _ (back : (bytes : List ℕ) (network : Network) (cert : Cert) → StandsFor bytes network cert
     → reading bytes ≡ Ok (network, cert)) where
-  refused_again : (text other : List ℕ) (n : ℕ) (refusal : CertError)
-      → (k : Refuses whole_text (start text) n refusal)
-      → BeginsWith k.lines other → reading other ≡ Err refusal
+  decided : (text : List ℕ) (n : ℕ) (refusal : CertError) → ((p : ℕ) → refusal ≢ Long p)
+      → ((line : List ℕ) → Alike refusal line line)
+      → ((m : ℕ) (tail : List ℕ) → Told refusal m tail → (n ≡ m) × ((rest : List ℕ) × (tail ≡ 10 ∷ rest)))
+      → reading text ≡ Err refusal → IsDecidedBy text n refusal
   unfolding reading
-  refused_again text other n refusal k begins =
-      ap (λ (t : List ℕ). unfolded (found (whole_text (start t)))) begins.is_text
-      ∙ ap (λ (read : Result Kept CertError). unfolded (found read)) (k.anywhere begins.rest)
-
-  decided : (text : List ℕ) (n : ℕ) (refusal : CertError) → Refuses whole_text (start text) n refusal
-      → IsDecidedBy text n refusal
-  decided text n refusal k = record {
-    lines = k.lines;
-    count = omega (arith, k.number);
-    begins = record { each = k.each; rest = k.rest; is_text = k.is_text };
-    same = λ other begins. refused_again text other n refusal k begins;
-    none = λ other network cert begins stands.
-        let read = sym (refused_again text other n refusal k begins) ∙ back other network cert stands in cc read;
-  }
+  decided text n refusal other alike told e =
+      let k = text_stop text refusal (whole_refused text refusal other e) in
+      let place = told (1 + length k.lines) k.tail k.told in
+      let again : (bytes : List ℕ) → BeginsWith (k.lines ++ k.text ∷ []) bytes → reading bytes ≡ Err refusal =
+      λ bytes begins.
+      ap (λ (t : List ℕ). unfolded (found (whole_text (start t))))
+      (begins.is_text ∙ grouped k.lines k.text begins.rest)
+      ∙ ap (λ (read : Result Kept CertError). unfolded (found read))
+      (k.anywhere k.text begins.rest k.whole (alike k.text)) in
+      record {
+        lines = k.lines ++ k.text ∷ [];
+        count = omega (arith, length-append k.lines (k.text ∷ []), place.0);
+        begins = record {
+          each = All-append IsLine k.lines (k.text ∷ []) k.each (All-cons IsLine k.text [] k.whole (All-nil IsLine));
+          rest = place.1.0;
+          is_text = k.is_text ∙ ap (λ (t : List ℕ). lines_text k.lines ++ (k.text ++ t)) place.1.1
+              ∙ sym (grouped k.lines k.text place.1.0);
+        };
+        same = again;
+        none = λ bytes network cert begins stands.
+            let read = sym (again bytes begins) ∙ back bytes network cert stands in cc read;
+      }
 
   pub line_decided : (text : List ℕ) (n : ℕ) → reading text ≡ Err (Line n) → IsDecidedBy text n (Line n)
-  line_decided text n e =
-      decided text n (Line n) (whole_stops (start text) (Line n) (whole_refused text (Line n) (λ p w. cc w) e))
+  line_decided text n = decided text n (Line n) (λ p w. cc w) (λ line. (refl, λ first. refl)) (λ m tail k. k)
 
   pub number_decided : (text : List ℕ) (n : ℕ) → reading text ≡ Err (Number n) → IsDecidedBy text n (Number n)
-  number_decided text n e =
-      decided text n (Number n)
-      (whole_stops (start text) (Number n) (whole_refused text (Number n) (λ p w. cc w) e))
+  number_decided text n = decided text n (Number n) (λ p w. cc w) (λ line. refl) (λ m tail k. k)
 
   pub deep_decided : (text : List ℕ) (n : ℕ) → reading text ≡ Err (Deep n) → IsDecidedBy text n (Deep n)
-  deep_decided text n e =
-      decided text n (Deep n) (whole_stops (start text) (Deep n) (whole_refused text (Deep n) (λ p w. cc w) e))
+  deep_decided text n = decided text n (Deep n) (λ p w. cc w) (λ line. refl) (λ m tail k. k)

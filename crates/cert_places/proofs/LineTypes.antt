@@ -3,9 +3,9 @@
 -- The values that lines say are of types of their own, which stand in other crates and are known here by their judges
 -- alone: such a type is that of what a judge answers (`said_by`), and a value of it is made by what makes it there
 -- (`made_by`). A judge tries one keyword after the other, and behind each it makes one kind of value. So what holds of
--- each kind holds of whatever a line says (`part_said`, `proof_said`, `tree_said`, `source_said`), and there are two
--- versions. It isn't said which words a line has, nor that each value is said by some line.
-use Rattle.std.proofs.Common.{◌≡◌, ◌⊎◌, inl, inr, ℕ, ℤ, List, [], ◌∷◌, Result, Ok, Err, codes, refl, sym, subst}
+-- each kind holds of whatever a line says (`proof_said`, `tree_said`, `source_said`), and there are two versions. It isn't
+-- said which words a line has, nor that each value is said by some line.
+use Rattle.std.proofs.Common.{◌≡◌, ◌⊎◌, inl, inr, ℕ, ℤ, List, [], ◌∷◌, Result, Ok, Err, codes, refl, subst}
 use Rattle.std.specs.List.{join_with_byte}
 use Rattle.affine_core.specs.declared.form.Form.{Form}
 use Rattle.int_polyhedra.specs.declared.system.Term.{Term}
@@ -89,34 +89,6 @@ module _ {T : Type 0} (item : List (List ℕ) → Result T Fault) where
 
   abbrev pub repeat_line : ℕ → ℕ → PartLine
   repeat_line count parts = repeat_from [] [] (count, parts)
-
-  -- what holds of items and of repeats holds of what a line says
-  module _ (P : PartLine → Type 0) (each : (x : T) → P (item_line x))
-      (repeats : (count parts : ℕ) → P (repeat_line count parts)) where
-    item_said : (words : List (List ℕ)) (l : PartLine) → made item_line (item words) ≡ Ok l → P l
-    item_said words l e = let k = made_ok item_line (item words) l e in subst P k.2 (each k.0)
-
-    repeat_said : (words : List (List ℕ)) (l : PartLine) → repeat_words words ≡ Ok l → P l
-    repeat_said [] l e = absurd (cc e)
-    repeat_said (a ∷ []) l e = absurd (cc e)
-    repeat_said (a ∷ (b ∷ [])) l e =
-        let k = made_ok _ (both (at_least 2 (number a)) (at_least 1 (number b))) l e in
-        subst P k.2 (repeats k.0.0 k.0.1)
-    repeat_said (a ∷ (b ∷ (c ∷ more))) l e = absurd (cc e)
-
-    said_in_second : (words : List (List ℕ)) (l : PartLine) → part_line item second_version words ≡ Ok l → P l
-    said_in_second [] l e = item_said [] l e
-    said_in_second (word ∷ words) l e = elim (at_keyword word (codes "r") _ _ l e) [
-      | inl here ↦ repeat_said words l here.1
-      | inr other ↦ item_said (word ∷ words) l other
-    ]
-
-    pub part_said : (version : Version) → IsVersion version → (words : List (List ℕ)) (l : PartLine)
-        → part_line item version words ≡ Ok l → P l
-    part_said version (inl first) words l e =
-        item_said words l (subst (λ (v : Version). part_line item v words ≡ Ok l) (sym first) e)
-    part_said version (inr second) words l e =
-        said_in_second words l (subst (λ (v : Version). part_line item v words ≡ Ok l) (sym second) e)
 
 -- Lines of proofs, trees and sources
 

@@ -4,9 +4,9 @@
 -- each stands in the pattern as it stands in the line. What is judged together is wrong where one of both is, and in
 -- range where both are, so it goes by the words. It isn't so of the version: `cert 3` has wrong words, and its pattern
 -- is `cert 2`.
-use Rattle.std.proofs.Common.{◌≡◌, inl, inr, ℕ, ◌<◌, ◌==◌, ◌||◌, ℤ, pos, Bool, true, false, not, nat_le}
-use Rattle.std.proofs.Common.{if◌then◌else◌, Option, Some, None, List, [], ◌∷◌, ◌++◌, Result, Ok, Err, codes, length}
-use Rattle.std.proofs.Common.{refl, sym, ap, subst, ◌∙◌, arith}
+use Rattle.std.proofs.Common.{◌≡◌, inl, inr, ℕ, ◌<◌, ◌==◌, ◌||◌, pos, Bool, true, false, not, nat_le, if◌then◌else◌}
+use Rattle.std.proofs.Common.{Option, Some, None, List, [], ◌∷◌, ◌++◌, Result, Ok, Err, codes, length, refl, sym, ap}
+use Rattle.std.proofs.Common.{subst, ◌∙◌, arith}
 use Rattle.std.specs.Prelude.{bytes_eq, ok_or}
 use Rattle.std.specs.List.{join_with_byte, list_all, onto_first}
 use Rattle.std.proofs.lemmas.Bool.{and_from, and_parts, and_right, cases_Bool, or_left, or_from}
@@ -57,26 +57,15 @@ milder_made f (Ok x) other k = (f k.0, ap (made f) k.1)
 milder_made f (Err Words) other k = ap (made f) k
 milder_made f (Err Range) other k = (f k.0, ap (made f) k.1)
 
-both_said : {A B : Type 0} (a : Result A Fault) (b : Result B Fault) (x : A) (y : B) → a ≡ Ok x → b ≡ Ok y
-    → both a b ≡ Ok (x, y)
-both_said a b x y e f = rw (e, f) refl
-
-second_wrong : {A B : Type 0} (a : Result A Fault) (b : Result B Fault) (x : A) → a ≡ Ok x → b ≡ Err Words
-    → both a b ≡ Err Words
-second_wrong a b x e f = rw (e, f) refl
-
-first_wrong : {A B : Type 0} (a : Result A Fault) (b : Result B Fault) → a ≡ Err Words → both a b ≡ Err Words
-first_wrong a b e = rw e refl
-
 milder_both : {A B : Type 0} (a c : Result A Fault) (b d : Result B Fault) → Milder a c → Milder b d
     → Milder (both a b) (both c d)
-milder_both (Ok x) c (Ok y) d k l = ((k.0, l.0), both_said c d k.0 l.0 k.1 l.1)
-milder_both (Ok x) c (Err Words) d k l = second_wrong c d k.0 k.1 l
-milder_both (Ok x) c (Err Range) d k l = ((k.0, l.0), both_said c d k.0 l.0 k.1 l.1)
-milder_both (Err Words) c b d k l = first_wrong c d k
-milder_both (Err Range) c (Ok y) d k l = ((k.0, l.0), both_said c d k.0 l.0 k.1 l.1)
-milder_both (Err Range) c (Err Words) d k l = second_wrong c d k.0 k.1 l
-milder_both (Err Range) c (Err Range) d k l = ((k.0, l.0), both_said c d k.0 l.0 k.1 l.1)
+milder_both (Ok x) c (Ok y) d k l = ((k.0, l.0), rw (k.1, l.1) refl)
+milder_both (Ok x) c (Err Words) d k l = rw (k.1, l) refl
+milder_both (Ok x) c (Err Range) d k l = ((k.0, l.0), rw (k.1, l.1) refl)
+milder_both (Err Words) c b d k l = rw k refl
+milder_both (Err Range) c (Ok y) d k l = ((k.0, l.0), rw (k.1, l.1) refl)
+milder_both (Err Range) c (Err Words) d k l = rw (k.1, l) refl
+milder_both (Err Range) c (Err Range) d k l = ((k.0, l.0), rw (k.1, l.1) refl)
 
 -- Words of a pattern
 
@@ -144,91 +133,58 @@ milder_key word wanted a b c d key k l =
 
 -- Numbers
 
--- what a number in range is judged as
-record IsMild {A : Type 0} (judge : List ℕ → Result A Fault) : Type 0 where
-  two : A
-  at_two : judge (codes "2") ≡ Ok two
-  numeral : (word : List ℕ) → is_numeral word ≡ true → judge word ≡ Err Words → ⊥
-  negative : (word : List ℕ) → is_numeral word ≡ false → is_negative word ≡ true → judge word ≡ Err Words → ⊥
-  other : (word : List ℕ) → is_numeral word ≡ false → is_negative word ≡ false → judge word ≡ Err Words
-
 or_second : (a b : Bool) → a ≡ false → b ≡ true → (a || b) ≡ true
 or_second a b e f = rw (e, f) refl
 
-milder_word : {A : Type 0} (judge : List ℕ → Result A Fault) → IsMild judge → (word : List ℕ)
+-- a numeral is judged so, another number so, and other words are wrong
+milder_word : {A : Type 0} (judge : List ℕ → Result A Fault) (word : List ℕ) (a b : Result A Fault) (two : A)
+    → judge (codes "2") ≡ Ok two → (a ≡ Err Words → ⊥) → (b ≡ Err Words → ⊥)
+    → judge word ≡ (if is_numeral word then a else if is_negative word then b else Err Words)
     → Milder (judge word) (judge (in_pattern word))
-milder_word judge k word = elim (cases_Bool (is_numeral word)) [
-  | inl numeral ↦ milder_fits (judge word) (judge (in_pattern word)) k.two (k.numeral word numeral)
-      (ap judge (a_number word (or_left (is_numeral word) (is_negative word) numeral)) ∙ k.at_two)
+milder_word judge word a b two at_two a_fits b_fits is = elim (cases_Bool (is_numeral word)) [
+  | inl numeral ↦ milder_fits (judge word) (judge (in_pattern word)) two (λ e. a_fits (sym (rw numeral at is) ∙ e))
+      (ap judge (a_number word (or_left (is_numeral word) (is_negative word) numeral)) ∙ at_two)
   | inr plain ↦ elim (cases_Bool (is_negative word)) [
-    | inl negative ↦ milder_fits (judge word) (judge (in_pattern word)) k.two (k.negative word plain negative)
-        (ap judge (a_number word (or_second (is_numeral word) (is_negative word) plain negative)) ∙ k.at_two)
-    | inr wrong ↦ milder_wrong (judge word) (judge (in_pattern word)) (k.other word plain wrong)
-        (ap judge (no_number word (or_from (is_numeral word) (is_negative word) plain wrong))
-        ∙ k.other word plain wrong)
+    | inl negative ↦ milder_fits (judge word) (judge (in_pattern word)) two
+        (λ e. b_fits (sym (rw (plain, negative) at is) ∙ e))
+        (ap judge (a_number word (or_second (is_numeral word) (is_negative word) plain negative)) ∙ at_two)
+    | inr wrong ↦
+        let none : judge word ≡ Err Words = rw (plain, wrong) at is in
+        milder_wrong (judge word) (judge (in_pattern word)) none
+        (ap judge (no_number word (or_from (is_numeral word) (is_negative word) plain wrong)) ∙ none)
   ]
 ]
 
-bounded : (test : Bool) (n : ℕ) → ◌≡◌ {A = Result ℕ Fault} (if test then Ok n else Err Range) (Err Words) → ⊥
+bounded : {A : Type 0} (test : Bool) (n : A) → ◌≡◌ {A = Result A Fault} (if test then Ok n else Err Range) (Err Words) → ⊥
 bounded true n e = cc e
 bounded false n e = cc e
 
-number_numeral : (word : List ℕ) → is_numeral word ≡ true → number word ≡ Err Words → ⊥
-number_numeral word numeral e = bounded _ _ (rw numeral at e)
-
-number_negative : (word : List ℕ) → is_numeral word ≡ false → is_negative word ≡ true → number word ≡ Err Words → ⊥
-number_negative word plain negative e =
-    let f : ◌≡◌ {A = Result ℕ Fault} (Err Range) (Err Words) = rw (plain, negative) at e in cc f
-
-number_other : (word : List ℕ) → is_numeral word ≡ false → is_negative word ≡ false → number word ≡ Err Words
-number_other word plain wrong = rw (plain, wrong) refl
-
-number_mild : IsMild number
-number_mild = record {
-  two = 2;
-  at_two = refl;
-  numeral = number_numeral;
-  negative = number_negative;
-  other = number_other;
-}
+out_of_range : {A : Type 0} → ◌≡◌ {A = Result A Fault} (Err Range) (Err Words) → ⊥
+out_of_range e = cc e
 
 milder_number : (word : List ℕ) → Milder (number word) (number (in_pattern word))
-milder_number word = milder_word number number_mild word
+milder_number word = milder_word number word _ _ 2 refl (bounded _ _) out_of_range refl
 
-least_wrong : (least : ℕ) (said : Result ℕ Fault) → at_least least said ≡ Err Words → said ≡ Err Words
-least_wrong least (Ok n) e = absurd (bounded (nat_le least n) n e)
-least_wrong least (Err fault) e = let same : fault ≡ Words = cc in ap (λ (f : Fault). Err f) same
+least_bounded : (least : ℕ) (test : Bool) (n : ℕ) → at_least least (if test then Ok n else Err Range) ≡ Err Words → ⊥
+least_bounded least true n e = bounded (nat_le least n) n e
+least_bounded least false n e = out_of_range e
+
+least_of : (least : ℕ) (a b : Bool) (said : Result ℕ Fault)
+    → at_least least (if a then said else if b then Err Range else Err Words)
+    ≡ (if a then at_least least said else if b then Err Range else Err Words)
+least_of least true b said = refl
+least_of least false true said = refl
+least_of least false false said = refl
 
 milder_least : (least : ℕ) → at_least least (Ok 2) ≡ Ok 2 → (word : List ℕ)
     → Milder (at_least least (number word)) (at_least least (number (in_pattern word)))
-milder_least least two word = milder_word (λ w. at_least least (number w))
-    (record {
-      two = 2;
-      at_two = two;
-      numeral = λ w numeral e. number_numeral w numeral (least_wrong least (number w) e);
-      negative = λ w plain negative e. number_negative w plain negative (least_wrong least (number w) e);
-      other = λ w plain wrong. ap (at_least least) (number_other w plain wrong);
-    }) word
-
-bits_fit : (test : Bool) (z : ℤ) → ◌≡◌ {A = Result ℤ Fault} (if test then Ok z else Err Range) (Err Words) → ⊥
-bits_fit true z e = cc e
-bits_fit false z e = cc e
-
-integer_numeral : (word : List ℕ) → is_numeral word ≡ true → integer word ≡ Err Words → ⊥
-integer_numeral word numeral e = bits_fit _ _ (rw numeral at e)
-
-integer_negative : (word : List ℕ) → is_numeral word ≡ false → is_negative word ≡ true → integer word ≡ Err Words → ⊥
-integer_negative word plain negative e = bits_fit _ _ (rw (plain, negative) at e)
+milder_least least two word =
+    milder_word (λ w. at_least least (number w)) word _ _ 2 two
+    (least_bounded least _ _) out_of_range
+    (least_of least (is_numeral word) (is_negative word) _)
 
 milder_integer : (word : List ℕ) → Milder (integer word) (integer (in_pattern word))
-milder_integer word = milder_word integer
-    (record {
-      two = pos 2;
-      at_two = refl;
-      numeral = integer_numeral;
-      negative = integer_negative;
-      other = λ w plain wrong. rw (plain, wrong) refl;
-    }) word
+milder_integer word = milder_word integer word _ _ (pos 2) refl (bounded _ _) (bounded _ _) refl
 
 milder_numbers : (a b : List ℕ)
     → Milder (both (number a) (number b)) (both (number (in_pattern a)) (number (in_pattern b)))
@@ -474,25 +430,17 @@ milds_end (word ∷ (other ∷ words)) =
 
 -- Other numbers
 
+wrong_in_both : {A : Type 0} (said other : Result A Fault) → Milder said other → other ≡ Err Words → said ≡ Err Words
+wrong_in_both (Ok x) other k e = let f = sym k.1 ∙ e in absurd (cc f)
+wrong_in_both (Err Words) other k e = refl
+wrong_in_both (Err Range) other k e = let f = sym k.1 ∙ e in absurd (cc f)
+
 -- wrong words are wrong with other numbers
 pub stays_wrong : {A : Type 0} (judge : List (List ℕ) → Result A Fault) → Milds judge → (words others : List (List ℕ))
     → patterns words ≡ patterns others → judge words ≡ Err Words → judge others ≡ Err Words
-stays_wrong {A} judge milds words others same e = of_other (judge others) refl
-  where
-    in_both : judge (patterns others) ≡ Err Words
-    in_both = ap judge (sym same) ∙ subst (λ (r : Result A Fault). Milder r (judge (patterns words))) e (milds words)
-
-    fits : (y : A) → judge (patterns others) ≡ Ok y → ⊥
-    fits y f = let wrong : ◌≡◌ {A = Result A Fault} (Err Words) (Ok y) = sym in_both ∙ f in cc wrong
-
-    of_other : (said : Result A Fault) → judge others ≡ said → said ≡ Err Words
-    of_other (Ok x) is =
-        let k = subst (λ (r : Result A Fault). Milder r (judge (patterns others))) is (milds others) in
-        absurd (fits k.0 k.1)
-    of_other (Err Words) is = refl
-    of_other (Err Range) is =
-        let k = subst (λ (r : Result A Fault). Milder r (judge (patterns others))) is (milds others) in
-        absurd (fits k.0 k.1)
+stays_wrong {A} judge milds words others same e =
+    wrong_in_both (judge others) (judge (patterns others)) (milds others)
+    (ap judge (sym same) ∙ subst (λ (r : Result A Fault). Milder r (judge (patterns words))) e (milds words))
 
 -- a line of the same pattern that says something
 pub record Mended {A : Type 0} (judge : List (List ℕ) → Result A Fault) (text : List ℕ) : Type 0 where

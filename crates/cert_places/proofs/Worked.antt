@@ -1,23 +1,25 @@
--- The definitions on small texts, computed by hand.
+-- The definitions on small texts.
 --
 -- In `cert 2`, `sizes 0 0 0 1`, `r 1 1`, `0`, `end` the third line is wrong in a number: the two lines before it go on to a
--- text, also with `r 2 1`, as is shown here, and no text has a repeat that is made once. `cert 3` is wrong in its first line,
--- but not as a number is. The empty text is cut short, and so is one whose `end` lacks its line feed. Each kind of refusal
--- has rows of its own below, the lines of which were counted by hand.
-use Rattle.std.proofs.Common.{◌≡◌, inl, inr, ℕ, suc, ◌*◌, ◌≤◌, ◌==◌, false, if◌then◌else◌, Some, None, List, [], ◌∷◌, ◌++◌}
-use Rattle.std.proofs.Common.{All, Err, codes, get_or, length, length-append, append-nil, replicate, refl, sym, ap, subst}
-use Rattle.std.proofs.Common.{◌∙◌, ◌+◌, ◌<◌, Bool, true, append_assoc, arith}
-use Rattle.std.specs.Prelude.{nat_lt, not}
+-- text, also with `r 2 1`, as is shown by hand, and no text has a repeat that is made once. `cert 3` is wrong in its first
+-- line, but not as a number is. The empty text is cut short, and so is one whose `end` lacks its line feed. That is so by
+-- the law, since what is read of these texts is computed here. Each kind of refusal has rows of its own below, the lines of
+-- which were counted by hand.
+use Rattle.std.proofs.Common.{◌≡◌, ℕ, suc, ◌*◌, ◌≤◌, if◌then◌else◌, Some, None, List, [], ◌∷◌, ◌++◌, All, Err, codes}
+use Rattle.std.proofs.Common.{length, append-nil, replicate, refl, sym, ap, ◌∙◌, ◌<◌, arith}
+use Rattle.std.specs.Prelude.{nat_lt}
 use Rattle.std.specs.Fmt.{digits}
-use Rattle.std.specs.List.{concat, flat_map, list_all}
+use Rattle.std.specs.List.{concat}
 use Rattle.std.specs.Option.{option_or}
-use Rattle.std.proofs.lemmas.Bool.{and_parts, not-true}
 use Rattle.std.proofs.lemmas.Fmt.{decimal_digit}
-use Rattle.std.proofs.lemmas.List.{get_or-append_right}
 use Rattle.std.proofs.lemmas.List.Elements.{All-cons, All-nil}
 use Rattle.affine_core.specs.declared.form.Form.{Form}
+use Rattle.int_polyhedra.specs.declared.system.Proof.{Proof}
+use Rattle.int_polyhedra.specs.declared.system.Proof.TheFolds.{fold-roll-Proof}
+use Rattle.int_polyhedra.specs.declared.system.Proof.TheOpen as proof_layer
 use Rattle.int_polyhedra.specs.declared.system.Proof.TheVariants.{Sum}
-use Rattle.int_polyhedra.specs.declared.system.Proof.TheViews.{Split}
+use Rattle.int_polyhedra.specs.declared.system.Proof.TheViews.{Split, rolls-Split, rolls-Sum}
+use Rattle.int_polyhedra.specs.declared.system.Term.{Term}
 use Rattle.script_blocks.specs.declared.blocks.Blocks.{Blocks}
 use Rattle.script_blocks.specs.declared.blocks.BlockPart.{BlockPart}
 use Rattle.script_blocks.specs.declared.blocks.BlockPart.TheVariants.{Item}
@@ -29,73 +31,52 @@ use Rattle.cert_lines.specs.declared.error.CertError.TheVariants.{Deep, Line, Lo
 use Rattle.cert_lines.specs.Words.{IsInRange}
 use Rattle.cert_lines.specs.Reading.{many}
 use Rattle.tree_text.specs.Reading.{proof, tree_within}
-use Rattle.cert_text.specs.CertText.{ChannelIsInRange, IsInRangeOf, OriginIsInRange, ProcessIsInRange, channel_text}
-use Rattle.cert_text.specs.CertText.{end_text, entry_text, folded_text, head_text, part_text, parts_text, process_text}
-use Rattle.cert_text.specs.CertText.{repeat_text, sizes_text, source_text}
+use Rattle.cert_text.specs.CertText.{ChannelIsInRange, IsInRangeOf, OriginIsInRange, ProcessIsInRange, end_text}
+use Rattle.cert_text.specs.CertText.{entry_text, folded_text, head_text, part_text, parts_text, repeat_text, sizes_text}
 use Rattle.cert_text.specs.Folding.{Folded, PartIsInRange, long_script, most_events, too_long}
 use Rattle.cert_text.specs.Reading.{part, reading}
 use Rattle.cert_text.proofs.Proper.{item_in_range, repeat_in_range}
 use Rattle.cert_text.proofs.Texts.{text_item, text_repeat}
-use Rattle.cert_places.specs.Depths.{NestsTo, OriginNestsTo, part_depths, proof_depths, repeat_levels}
-use Rattle.cert_places.specs.Fronts.{IsLine}
-use Rattle.cert_places.specs.Places.{IsCutShort, IsFront, IsOutOfRangeAt, IsShallow, IsText, IsTooDeepAt, IsTooLong, IsWrongAt}
-use Rattle.cert_places.specs.Places.{pattern}
-use Rattle.cert_places.proofs.ExactPlaces.{deep_is_too_deep, every_version, number_is_out_of_range}
-use Rattle.cert_places.proofs.LineTypes.{IsVersion, Version, first_version, second_version}
-use Rattle.cert_places.proofs.ReachedParts.{depths_item, depths_repeat}
-use Rattle.cert_places.proofs.ReachedTrees.{depths_split, depths_sum}
-use Rattle.cert_places.proofs.TooLong.{too_long_is_refused}
+use Rattle.cert_places.specs.Depths.{NestsTo, OriginNestsTo, part_depths, proof_depths, repeat_levels, step_depths}
+use Rattle.cert_places.specs.Places.{IsCutShort, IsFront, IsOutOfRangeAt, IsShallow, IsText, IsTooDeepAt, IsTooLong}
+use Rattle.cert_places.specs.Places.{IsWrongAt, pattern}
+use Rattle.cert_places.proofs.Blocks.{depths_item, depths_repeat}
+use Rattle.cert_places.proofs.ExactPlaces.{deep_is_too_deep, line_is_wrong, number_is_out_of_range}
+use Rattle.cert_places.proofs.ExactPlaces.{truncated_is_cut_short, too_long_is_refused}
+use Rattle.cert_places.proofs.LineTypes.{second_version}
 
-abbrev one_entry : Folded
-one_entry = record {
-  processes = [];
-  channels = [];
-  sources = [];
-  schedule = record { parts = Item 0 ∷ [] };
-}
+-- no process, channel or source, and this schedule
+abbrev scheduled : List (BlockPart ℕ) → Folded
+scheduled parts = record { processes = []; channels = []; sources = []; schedule = record { parts = parts } }
 
-one_entry_nests : NestsTo 0 second_version one_entry
-one_entry_nests = record {
+scheduled_nests : (levels : ℕ) (parts : List (BlockPart ℕ)) → IsInRange (length parts)
+    → All (PartIsInRange IsInRange levels) parts → NestsTo levels second_version (scheduled parts)
+scheduled_nests levels parts count all = record {
   process_count = omega arith;
   channel_count = omega arith;
   source_count = omega arith;
-  processes = All-nil (ProcessIsInRange (repeat_levels second_version 0));
+  processes = All-nil (ProcessIsInRange (repeat_levels second_version levels));
   channels = All-nil ChannelIsInRange;
-  sources = All-nil (OriginNestsTo 0);
-  schedule = record {
-    count = omega arith;
-    parts = All-cons (PartIsInRange IsInRange 0) (Item 0) [] (item_in_range IsInRange 0 0 (omega arith))
-        (All-nil (PartIsInRange IsInRange 0));
-  };
+  sources = All-nil (OriginNestsTo levels);
+  schedule = record { count = count; parts = all };
 }
+
+-- a list of one part
+alone : (levels : ℕ) (p : BlockPart ℕ) → PartIsInRange IsInRange levels p → All (PartIsInRange IsInRange levels) (p ∷ [])
+alone levels p k = All-cons (PartIsInRange IsInRange levels) p [] k (All-nil (PartIsInRange IsInRange levels))
 
 one_entry_text : IsText (codes "cert 2\nsizes 0 0 0 1\n0\nend\n") (0 ∷ 0 ∷ 0 ∷ 0 ∷ [])
 one_entry_text = record {
   levels = 0;
   version = second_version;
-  folded = one_entry;
-  nests = one_entry_nests;
-  is_text = ap (λ (text : List ℕ). head_text second_version ++ (sizes_text one_entry ++ ((text ++ []) ++ end_text)))
-      (text_item entry_text 0) ∙ rw (decimal_digit 0 (omega arith), decimal_digit 1 (omega arith)) refl;
+  folded = scheduled (Item 0 ∷ []);
+  nests = scheduled_nests 0 (Item 0 ∷ []) (omega arith)
+      (alone 0 (Item 0) (item_in_range IsInRange 0 0 (omega arith)));
+  is_text = ap (λ (text : List ℕ). head_text second_version
+      ++ (sizes_text (scheduled (Item 0 ∷ [])) ++ ((text ++ []) ++ end_text))) (text_item entry_text 0)
+      ∙ rw (decimal_digit 0 (omega arith), decimal_digit 1 (omega arith)) refl;
   depths_are = ap (λ (ds : List ℕ). 0 ∷ 0 ∷ ((ds ++ []) ++ 0 ∷ [])) (depths_item 0 1);
 }
-
--- bytes that are lines, by a test of each
-
-abbrev is_no_feed : ℕ → Bool
-is_no_feed byte = not (byte == 10)
-
-a_line : (line : List ℕ) → list_all is_no_feed line ≡ true → IsLine line
-a_line [] none = All-nil (λ byte. (byte == 10) ≡ false)
-a_line (byte ∷ line) none =
-    let parts = and_parts (is_no_feed byte) (list_all is_no_feed line) none in
-    All-cons (λ b. (b == 10) ≡ false) byte line (not-true (byte == 10) parts.0) (a_line line parts.1)
-
-are_lines : (lines : List (List ℕ)) → list_all (list_all is_no_feed) lines ≡ true → All IsLine lines
-are_lines [] none = All-nil IsLine
-are_lines (line ∷ lines) none =
-    let parts = and_parts (list_all is_no_feed line) (list_all (list_all is_no_feed) lines) none in
-    All-cons IsLine line lines (a_line line parts.0) (are_lines lines parts.1)
 
 -- `0` and `end` may follow
 two_lines_are_a_front : IsFront (codes "cert 2" ∷ codes "sizes 0 0 0 1" ∷ [])
@@ -108,103 +89,20 @@ two_lines_are_a_front = record {
   shallow = All-cons IsShallow 0 (0 ∷ []) (omega arith) (All-cons IsShallow 0 [] (omega arith) (All-nil IsShallow));
 }
 
-no_lines_are_a_front : IsFront []
-no_lines_are_a_front = record {
-  rest = codes "cert 2\nsizes 0 0 0 1\n0\nend\n";
-  depths = [];
-  others = 0 ∷ 0 ∷ 0 ∷ 0 ∷ [];
-  in_text = one_entry_text;
-  as_many = refl;
-  shallow = All-nil IsShallow;
-}
-
 -- the empty text has no whole line, and is none
 empty_text_is_cut_short : IsCutShort []
-empty_text_is_cut_short = record {
-  lines = [];
-  each = All-nil IsLine;
-  rest = [];
-  last = All-nil (λ byte. (byte == 10) ≡ false);
-  is_text = refl;
-  front = no_lines_are_a_front;
-  none = λ depths k. let e = k.is_text in absurd (cc e);
-}
+unfolding reading
+empty_text_is_cut_short = truncated_is_cut_short [] refl
 
 -- `end` without its line feed
 unended_line_is_cut_short : IsCutShort (codes "cert 2\nsizes 0 0 0 1\n0\nend")
-unended_line_is_cut_short = record {
-  lines = codes "cert 2" ∷ codes "sizes 0 0 0 1" ∷ codes "0" ∷ [];
-  each = are_lines (codes "cert 2" ∷ codes "sizes 0 0 0 1" ∷ codes "0" ∷ []) refl;
-  rest = codes "end";
-  last = a_line (codes "end") refl;
-  is_text = refl;
-  front = record {
-    rest = codes "end\n";
-    depths = 0 ∷ 0 ∷ 0 ∷ [];
-    others = 0 ∷ [];
-    in_text = one_entry_text;
-    as_many = refl;
-    shallow = All-cons IsShallow 0 (0 ∷ 0 ∷ []) (omega arith)
-        (All-cons IsShallow 0 (0 ∷ []) (omega arith) (All-cons IsShallow 0 [] (omega arith) (All-nil IsShallow)));
-  };
-  none = λ depths k.
-      let front : List ℕ = front_of k.version k.folded in
-      let is : front ++ end_text ≡ codes "cert 2\nsizes 0 0 0 1\n0\nend" = sym (grouped k.version k.folded) ∙ k.is_text
-      in
-      let count : length front + 4 ≡ 26 = sym (length-append front end_text) ∙ ap length is in
-      let last : 10 ≡ 100 =
-      sym (get_or-append_right front end_text 22 25 0 (omega (arith, count)) (omega arith))
-      ∙ ap (λ (bytes : List ℕ). get_or bytes 25 0) is in
-      omega (arith, last);
-}
-  where
-    front_of : Version → Folded → List ℕ
-    front_of version folded =
-        head_text version
-        ++ (sizes_text folded
-        ++ (flat_map process_text folded.processes
-        ++ (flat_map channel_text folded.channels
-        ++ (flat_map source_text folded.sources
-        ++ parts_text entry_text folded.schedule.parts))))
-
-    regrouped : (a b c d e f g : List ℕ)
-        → a ++ (b ++ (c ++ (d ++ (e ++ (f ++ g))))) ≡ (a ++ (b ++ (c ++ (d ++ (e ++ f))))) ++ g
-    regrouped a b c d e f g = simp append_assoc
-
-    grouped : (version : Version) (folded : Folded) → folded_text version folded ≡ front_of version folded ++ end_text
-    grouped version folded =
-        regrouped (head_text version) (sizes_text folded) (flat_map process_text folded.processes)
-        (flat_map channel_text folded.channels) (flat_map source_text folded.sources)
-        (parts_text entry_text folded.schedule.parts) end_text
+unfolding reading many part
+unended_line_is_cut_short = truncated_is_cut_short (codes "cert 2\nsizes 0 0 0 1\n0\nend") refl
 
 -- there is no version 3
 third_version_is_wrong : IsWrongAt (codes "cert 3\n") 1
-third_version_is_wrong = record {
-  lines = [];
-  line = codes "cert 3";
-  there = record {
-    each = All-nil IsLine;
-    whole = a_line (codes "cert 3") refl;
-    rest = [];
-    is_text = refl;
-    number = refl;
-  };
-  front = no_lines_are_a_front;
-  none = λ rest depths k. of_version rest k.version k.folded (every_version k.version) k.is_text;
-}
-  where
-    of_version : (rest : List ℕ) (version : Version) (folded : Folded) → IsVersion version
-        → folded_text version folded ≡ codes "cert 3" ++ 10 ∷ rest → ⊥
-    of_version rest version folded (inl first) e =
-        let f : folded_text first_version folded ≡ codes "cert 3" ++ 10 ∷ rest =
-        subst (λ (v : Version). folded_text v folded ≡ codes "cert 3" ++ 10 ∷ rest) (sym first) e in
-        let sixth : 49 ≡ 51 = ap (λ (bytes : List ℕ). get_or bytes 5 0) f in
-        omega (arith, sixth)
-    of_version rest version folded (inr second) e =
-        let f : folded_text second_version folded ≡ codes "cert 3" ++ 10 ∷ rest =
-        subst (λ (v : Version). folded_text v folded ≡ codes "cert 3" ++ 10 ∷ rest) (sym second) e in
-        let sixth : 50 ≡ 51 = ap (λ (bytes : List ℕ). get_or bytes 5 0) f in
-        omega (arith, sixth)
+unfolding reading
+third_version_is_wrong = (line_is_wrong (codes "cert 3\n") 1 refl).0
 
 -- and not in its numbers alone: nothing before it says of which kind the text is
 first_line_has_no_range : IsOutOfRangeAt (codes "cert 3\n") 1 → ⊥
@@ -303,176 +201,100 @@ nested =
     ∙ ap (λ (ds : List ℕ). 1 ∷ (ds ++ []))
     (depths_repeat 3 inner 2 ∙ ap (λ (ds : List ℕ). 2 ∷ (ds ++ [])) (depths_item {T = ℕ} 0 3))
 
+depths_sum : (terms : List Term) (d : ℕ) → proof_depths (Sum terms) d ≡ d ∷ []
+depths_sum terms d = ap (λ (p : Proof). proof_depths p d) (sym (rolls-Sum terms))
+    ∙ ap (λ (f : ℕ → List ℕ). f d) (fold-roll-Proof (ℕ → List ℕ) step_depths (proof_layer.Sum terms))
+
 split_once : (form : Form) → proof_depths (Split form (Sum []) (Sum [])) 1 ≡ 1 ∷ 2 ∷ 2 ∷ []
 split_once form =
-    depths_split form (Sum []) (Sum []) 1
+    ap (λ (p : Proof). proof_depths p 1) (sym (rolls-Split form (Sum []) (Sum [])))
+    ∙ ap (λ (f : ℕ → List ℕ). f 1)
+    (fold-roll-Proof (ℕ → List ℕ) step_depths (proof_layer.Split form (Sum []) (Sum [])))
     ∙ ap (λ (ds : List ℕ). 1 ∷ (ds ++ proof_depths (Sum []) 2)) (depths_sum [] 2)
     ∙ ap (λ (ds : List ℕ). 1 ∷ 2 ∷ ds) (depths_sum [] 2)
 
--- A schedule that is too long
+-- A schedule of one entry so many times
 
--- 17 times 128 times 256 times 256 entries are 142,606,336, which is the most
+abbrev entries : ℕ → Folded
+entries count = scheduled (Repeat count inner ∷ [])
 
-abbrev times : ℕ → Blocks ℕ → Blocks ℕ
-times count body = record { parts = Repeat count body ∷ [] }
+entries_length : (count : ℕ) → length (expansion (entries count).schedule) ≡ count * 1
+entries_length count =
+    ap length (append-nil (part_expansion (Repeat count inner)) ∙ expansion_repeat count inner)
+    ∙ length-repeated count (parts_expansion inner.parts)
+    ∙ ap (λ (n : ℕ). count * n) (ap length (append-nil (part_expansion (Item 0)) ∙ expansion_item 0))
 
-abbrev pages : Blocks ℕ
-pages = times 256 (times 256 inner)
+entries_in_range : (levels count : ℕ) → 2 ≤ count → count ≤ 4294967295
+    → All (PartIsInRange IsInRange (suc levels)) (Repeat count inner ∷ [])
+entries_in_range levels count twice small =
+    alone (suc levels) (Repeat count inner)
+    (repeat_in_range IsInRange levels count inner
+    (record { twice = twice; count_in_range = small; some = omega arith; parts_in_range = omega arith })
+    (alone levels (Item 0) (item_in_range IsInRange levels 0 (omega arith))))
 
-abbrev most : Blocks ℕ
-most = times 17 (times 128 pages)
+entries_text : (count : ℕ) → parts_text entry_text (entries count).schedule.parts ≡ repeat_text count 1 ++ entry_text 0
+entries_text count =
+    append-nil (part_text entry_text (Repeat count inner)) ∙ text_repeat entry_text count inner
+    ∙ ap (λ (text : List ℕ). repeat_text count 1 ++ text)
+    (append-nil (part_text entry_text (Item 0)) ∙ text_item entry_text 0)
 
-inner_length : length (expansion inner) ≡ 1
-inner_length = ap length (append-nil (part_expansion (Item 0)) ∙ expansion_item 0)
-
-times_length : (count : ℕ) (body : Blocks ℕ) → length (expansion (times count body)) ≡ count * length (expansion body)
-times_length count body =
-    ap length (append-nil (part_expansion (Repeat count body)) ∙ expansion_repeat count body)
-    ∙ length-repeated count (parts_expansion body.parts)
-
-most_length : length (expansion most) ≡ 142606336
-most_length =
-    times_length 17 (times 128 pages)
-    ∙ ap (λ (n : ℕ). 17 * n)
-    (times_length 128 pages
-    ∙ ap (λ (n : ℕ). 128 * n)
-    (times_length 256 (times 256 inner)
-    ∙ ap (λ (n : ℕ). 256 * n) (times_length 256 inner ∙ ap (λ (n : ℕ). 256 * n) inner_length)))
-
--- and one more
-
-abbrev one_more : Folded
-one_more = record {
-  processes = [];
-  channels = [];
-  sources = [];
-  schedule = record { parts = Repeat 17 (times 128 pages) ∷ Item 0 ∷ [] };
-}
-
-one_more_length : length (expansion one_more.schedule) ≡ 142606337
-one_more_length =
-    let first = part_expansion (Repeat 17 (times 128 pages)) in
-    let before : length first ≡ 142606336 = sym (ap length (append-nil first)) ∙ most_length in
-    let last : length (part_expansion (Item 0) ++ []) ≡ 1 = inner_length in
-    omega (arith, length-append first (part_expansion (Item 0) ++ []), before, last)
-
-times_in_range : (levels count : ℕ) (body : Blocks ℕ) → 2 ≤ count → count ≤ 4294967295 → length body.parts ≡ 1
-    → All (PartIsInRange IsInRange levels) body.parts → PartIsInRange IsInRange (suc levels) (Repeat count body)
-times_in_range levels count body twice small one all =
-    repeat_in_range IsInRange levels count body
-    (record { twice = twice; count_in_range = small; some = omega (arith, one); parts_in_range = omega (arith, one) }) all
-
--- a list of one part
-alone : (levels : ℕ) (p : BlockPart ℕ) → PartIsInRange IsInRange levels p → All (PartIsInRange IsInRange levels) (p ∷ [])
-alone levels p k = All-cons (PartIsInRange IsInRange levels) p [] k (All-nil (PartIsInRange IsInRange levels))
-
-one_more_in_range : IsInRangeOf second_version one_more
-one_more_in_range =
-    let item : (levels : ℕ) → All (PartIsInRange IsInRange levels) (Item 0 ∷ []) =
-    λ levels. alone levels (Item 0) (item_in_range IsInRange levels 0 (omega arith)) in
-    let four = times_in_range 508 256 inner (omega arith) (omega arith) refl (item 508) in
-    let three = times_in_range 509 256 (times 256 inner) (omega arith) (omega arith) refl
-    (alone 509 (Repeat 256 inner) four) in
-    let two = times_in_range 510 128 pages (omega arith) (omega arith) refl
-    (alone 510 (Repeat 256 (times 256 inner)) three) in
-    let one = times_in_range 511 17 (times 128 pages) (omega arith) (omega arith) refl
-    (alone 511 (Repeat 128 pages) two) in
-    record {
-      process_count = omega arith;
-      channel_count = omega arith;
-      source_count = omega arith;
-      processes = All-nil (ProcessIsInRange 512);
-      channels = All-nil ChannelIsInRange;
-      sources = All-nil OriginIsInRange;
-      schedule = record {
-        count = omega arith;
-        parts = All-cons (PartIsInRange IsInRange 512) (Repeat 17 (times 128 pages)) (Item 0 ∷ []) one (item 512);
-      };
-    }
-
-abbrev long_text : List ℕ
-long_text = codes "cert 2\nsizes 0 0 0 2\nr 17 1\nr 128 1\nr 256 1\nr 256 1\n0\n0\nend\n"
-
-times_text : (count : ℕ) (body : Blocks ℕ)
-    → parts_text entry_text (times count body).parts
-    ≡ repeat_text count (length body.parts) ++ parts_text entry_text body.parts
-times_text count body = append-nil (part_text entry_text (Repeat count body)) ∙ text_repeat entry_text count body
-
-inner_text : parts_text entry_text inner.parts ≡ entry_text 0
-inner_text = append-nil (part_text entry_text (Item 0)) ∙ text_item entry_text 0
-
--- the repeat of an entry, two times, is 1 deep
-
-abbrev twice : Folded
-twice = record { processes = []; channels = []; sources = []; schedule = times 2 inner }
-
-twice_nests : NestsTo 1 second_version twice
-twice_nests = record {
-  process_count = omega arith;
-  channel_count = omega arith;
-  source_count = omega arith;
-  processes = All-nil (ProcessIsInRange (repeat_levels second_version 1));
-  channels = All-nil ChannelIsInRange;
-  sources = All-nil (OriginNestsTo 1);
-  schedule = record {
-    count = omega arith;
-    parts = alone 1 (Repeat 2 inner)
-        (times_in_range 0 2 inner (omega arith) (omega arith) refl
-        (alone 0 (Item 0) (item_in_range IsInRange 0 0 (omega arith))));
-  };
-}
-
-twice_text : folded_text second_version twice ≡ codes "cert 2\nsizes 0 0 0 1\nr 2 1\n0\nend\n"
+twice_text : folded_text second_version (entries 2) ≡ codes "cert 2\nsizes 0 0 0 1\nr 2 1\n0\nend\n"
 unfolding digits
 twice_text =
-    ap (λ (text : List ℕ). head_text second_version ++ (sizes_text twice ++ (text ++ end_text)))
-    (times_text 2 inner ∙ ap (λ (text : List ℕ). repeat_text 2 1 ++ text) inner_text)
+    ap (λ (text : List ℕ). head_text second_version ++ (sizes_text (entries 2) ++ (text ++ end_text))) (entries_text 2)
 
+-- two times, it is 1 deep
 repeat_made_twice_is_a_text : IsText (codes "cert 2\nsizes 0 0 0 1\nr 2 1\n0\nend\n") (0 ∷ 0 ∷ 1 ∷ 0 ∷ 0 ∷ [])
 repeat_made_twice_is_a_text = record {
   levels = 1;
   version = second_version;
-  folded = twice;
-  nests = twice_nests;
+  folded = entries 2;
+  nests = scheduled_nests 1 (Repeat 2 inner ∷ []) (omega arith) (entries_in_range 0 2 (omega arith) (omega arith));
   is_text = twice_text;
   depths_are = ap (λ (ds : List ℕ). 0 ∷ 0 ∷ ((ds ++ []) ++ 0 ∷ []))
       (depths_repeat 2 inner 1 ∙ ap (λ (ds : List ℕ). 1 ∷ (ds ++ [])) (depths_item {T = ℕ} 0 2));
 }
 
-repeats_text : part_text entry_text (Repeat 17 (times 128 pages))
-    ≡ repeat_text 17 1 ++ (repeat_text 128 1 ++ (repeat_text 256 1 ++ (repeat_text 256 1 ++ entry_text 0)))
-repeats_text =
-    text_repeat entry_text 17 (times 128 pages)
-    ∙ ap (λ (text : List ℕ). repeat_text 17 1 ++ text)
-    (times_text 128 pages
-    ∙ ap (λ (text : List ℕ). repeat_text 128 1 ++ text)
-    (times_text 256 (times 256 inner)
-    ∙ ap (λ (text : List ℕ). repeat_text 256 1 ++ text)
-    (times_text 256 inner ∙ ap (λ (text : List ℕ). repeat_text 256 1 ++ text) inner_text)))
+-- 142,606,336 entries are the most, and one more is too long
 
-one_more_text : folded_text second_version one_more ≡ long_text
+abbrev long_text : List ℕ
+long_text = codes "cert 2\nsizes 0 0 0 1\nr 142606337 1\n0\nend\n"
+
+one_more_text : folded_text second_version (entries 142606337) ≡ long_text
 unfolding digits
 one_more_text =
-    ap (λ (text : List ℕ). head_text second_version
-    ++ (sizes_text one_more ++ ((text ++ parts_text entry_text inner.parts) ++ end_text))) repeats_text
-    ∙ ap (λ (text : List ℕ). head_text second_version ++ (sizes_text one_more
-    ++ (((repeat_text 17 1 ++ (repeat_text 128 1 ++ (repeat_text 256 1 ++ (repeat_text 256 1 ++ entry_text 0)))) ++ text)
-    ++ end_text))) inner_text
+    ap (λ (text : List ℕ). head_text second_version ++ (sizes_text (entries 142606337) ++ (text ++ end_text)))
+    (entries_text 142606337)
+
+one_more_in_range : IsInRangeOf second_version (entries 142606337)
+one_more_in_range = record {
+  process_count = omega arith;
+  channel_count = omega arith;
+  source_count = omega arith;
+  processes = All-nil (ProcessIsInRange 512);
+  channels = All-nil ChannelIsInRange;
+  sources = All-nil OriginIsInRange;
+  schedule = record {
+    count = omega arith;
+    parts = entries_in_range 511 142606337 (omega arith) (omega arith);
+  };
+}
 
 -- there is no process, so the number told is 0
 one_more_is_too_long : IsTooLong long_text 0
 one_more_is_too_long = record {
   version = second_version;
-  folded = one_more;
+  folded = entries 142606337;
   in_range = one_more_in_range;
   is_text = one_more_text;
-  long = ap (λ (n : ℕ). option_or (long_script []) (if nat_lt most_events n then Some 0 else None)) one_more_length;
+  long = ap (λ (n : ℕ). option_or (long_script []) (if nat_lt most_events n then Some 0 else None))
+      (entries_length 142606337);
 }
 
 -- with one entry less the schedule isn't too long
-most_is_not_too_long : too_long [] (expansion most) ≡ None
+most_is_not_too_long : too_long [] (expansion (entries 142606336).schedule) ≡ None
 most_is_not_too_long =
-    ap (λ (n : ℕ). option_or (long_script []) (if nat_lt most_events n then Some 0 else None)) most_length
+    ap (λ (n : ℕ). option_or (long_script []) (if nat_lt most_events n then Some 0 else None)) (entries_length 142606336)
 
 long_is_refused : reading long_text ≡ Err (Long 0)
 long_is_refused = too_long_is_refused long_text 0 one_more_is_too_long

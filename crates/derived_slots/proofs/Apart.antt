@@ -1,8 +1,9 @@
 -- The slots of a nest's network lie apart by channels.
 --
--- The slots of a reader's channels stand side by side, in the order of their numbers: those of a channel end before those of a later
--- one begin (`ends_before`). Each Get of a channel is into a slot of its own (`slot_of_get`), since it is into the slot that the
--- channel's plan has for its number. So two Gets into one slot are of one channel, wherever they stand.
+-- The slots of a reader's channels stand side by side, in the order of their numbers: those of a channel end
+-- before those of a later one begin (`ends_before`). Each Get of a channel is into a slot of its own
+-- (`slot_of_get`), since it is into the slot that the channel's plan has for its number. So two Gets into one slot
+-- are of one channel, wherever they stand.
 use Rattle.std.proofs.Common.{◌≡◌, ℕ, zero, suc, ◌+◌, ◌<◌, ◌≤◌, cond, Some, List, [], ◌∷◌, take, slice_get, count_by}
 use Rattle.std.proofs.Common.{ap, sym, ◌∙◌, refl, inl, inr, arith, eq-eqb}
 use Rattle.std.specs.Prelude.{slice_index, ◌==◌}

@@ -1,11 +1,12 @@
 -- The design stands for the clocked run, edge by edge and clock by clock, so it stops where that one does.
 --
--- The invariant is that after so many edges the design is the one that stands for the state after so many clocks. A
--- reset gives that of the start, and an edge leads on by `edge_alike`, as the clock's events made one after the other
--- come to the same as made at once (`clock_at_once`); so it is where processes and their nodes are held back at the
--- same clocks (`stands_for_run`), of which the clocked run is the case of none. All else is read off the machine's
--- state: which nodes step, who has ended, how long the queues are. From the clocked run's end on no process is enabled,
--- so each further clock is empty (`stay`). Nothing is said of a network that sticks before its end.
+-- The invariant is that after so many edges the design is the one that stands for the state after so many clocks.
+-- A reset gives that of the start, and an edge leads on by `edge_alike`, as the clock's events made one after the
+-- other come to the same as made at once (`clock_at_once`); so it is where processes and their nodes are held back
+-- at the same clocks (`stands_for_run`), of which the clocked run is the case of none. All else is read off the
+-- machine's state: which nodes step, who has ended, how long the queues are. From the clocked run's end on no
+-- process is enabled, so each further clock is empty (`stay`). Nothing is said of a network that sticks before its
+-- end.
 use Rattle.std.proofs.Common.{◌≡◌, ℕ, zero, suc, ◌+◌, ◌-◌, ◌<◌, ◌≤◌, ℤ, Bool, true, false, cond, Option, Some, None, List, [], ◌∷◌}
 use Rattle.std.proofs.Common.{◌++◌, length, take, slice_get, count_by, option_to_list, refl, sym, ap, subst, ◌∙◌, inl, inr, arith}
 use Rattle.std.specs.List.{filter, range_with_len}
@@ -105,7 +106,7 @@ module _ {T : Type 0} (n : Net) (controls : Controls) (rule : Rule T) (wired : I
 
 -- What is offered is there
 
-some_last : {T : Type 0} (kept : List T) → 0 < length kept → (x : T) × (front (last_of kept) ≡ Some x)
+pub some_last : {T : Type 0} (kept : List T) → 0 < length kept → (x : T) × (front (last_of kept) ≡ Some x)
 some_last [] some = absurd (omega arith)
 some_last (x ∷ []) some = (x, refl)
 some_last (x ∷ (y ∷ kept)) some = some_last (y ∷ kept) (omega arith)

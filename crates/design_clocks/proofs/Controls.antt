@@ -1,7 +1,7 @@
 -- A sequencer that gives a script reads at each of its steps the event of that number, and behind the last none.
 --
--- By induction over the script, from any state on. Behind the script it stands at its end, where it has no instruction,
--- and stays there.
+-- By induction over the script, from any state on. Behind the script it stands at its end, where it has no
+-- instruction, and stays there.
 use Rattle.std.proofs.Common.{◌≡◌, ℕ, zero, suc, Option, Some, None, List, [], ◌∷◌, length, slice_get, refl, sym, ap, ◌∙◌, le_refl}
 use Rattle.std.specs.Option.{option_map}
 use Rattle.std.proofs.lemmas.Option.{slice_get_past}

@@ -1,9 +1,9 @@
 -- An edge of the design that stands for a state leads to the design that stands for the state after a clock.
 --
--- A node reads the event that its process makes next, and steps where this is enabled: the wires say of a channel what
--- the machine asks of its queue. So each node's registers go as its process's part (`node_alike`), and a channel is
--- asked for its front or offered a token by a node that steps exactly where a process gets or puts (`asked_alike`,
--- `offered_alike`). It holds of every state, given that the sequencers read the scripts.
+-- A node reads the event that its process makes next, and steps where this is enabled: the wires say of a channel
+-- what the machine asks of its queue. So each node's registers go as its process's part (`node_alike`), and a
+-- channel is asked for its front or offered a token by a node that steps exactly where a process gets or puts
+-- (`asked_alike`, `offered_alike`). It holds of every state, given that the sequencers read the scripts.
 use Rattle.std.proofs.Common.{◌≡◌, ℕ, suc, Bool, true, false, ◌&&◌, eqb, nat_lt, Option, Some, None, List, [], ◌∷◌}
 use Rattle.std.proofs.Common.{◌++◌, length, drop, if◌then◌else◌, option_to_list, refl, sym, ap, ap₂, ◌∙◌, inl, inr, arith}
 use Rattle.std.proofs.Common.{append-nil, eqb-true, length-append}
@@ -21,12 +21,12 @@ use Rattle.design_clocks.proofs.OneClock.{does, local_moved, made, moved}
 
 -- the value fired last
 
-last_append : {T : Type 0} (kept : List T) (x : T) → last_of (kept ++ x ∷ []) ≡ x ∷ []
+pub last_append : {T : Type 0} (kept : List T) (x : T) → last_of (kept ++ x ∷ []) ≡ x ∷ []
 last_append [] x = refl
 last_append (y ∷ []) x = refl
 last_append (y ∷ (z ∷ kept)) x = last_append (z ∷ kept) x
 
-last_alike : {T : Type 0} (kept : List T) → option_to_list (front (last_of kept)) ≡ last_of kept
+pub last_alike : {T : Type 0} (kept : List T) → option_to_list (front (last_of kept)) ≡ last_of kept
 last_alike [] = refl
 last_alike (x ∷ []) = refl
 last_alike (x ∷ (y ∷ kept)) = last_alike (y ∷ kept)

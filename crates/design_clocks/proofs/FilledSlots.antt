@@ -1,8 +1,8 @@
 -- A fire of a sound network's design finds a value in each slot that it reads.
 --
--- In each state that a run reaches a slot holds the value of the token that it names, if it names one, and in a sound
--- network each reference of a fire names a last writer's token or is Zero. So where a slot is read it names a token,
--- and holds its value. It is said of slots that are read: another may have been filled by no Get yet.
+-- In each state that a run reaches a slot holds the value of the token that it names, if it names one, and in a
+-- sound network each reference of a fire names a last writer's token or is Zero. So where a slot is read it names
+-- a token, and holds its value. It is said of slots that are read: another may have been filled by no Get yet.
 use Rattle.std.proofs.Common.{◌≡◌, ℕ, ℤ, Option, Some, None, List, slice_get, option_map, refl, sym, ap, ◌∙◌}
 use Rattle.std.proofs.lemmas.Option.{slice_get-map}
 use Rattle.sanlp.specs.declared.nest.Inputs.{Inputs}
@@ -25,7 +25,7 @@ use Rattle.design_clocks.specs.Clocked.{FiresFindValues, GiveScripts}
 use Rattle.design_clocks.proofs.Clocked.{event_after, stands_for}
 
 -- what names a last writer, or Zero, and is a slot, names a token
-is_token : (name : Option (Option Tag)) (source : Option Tag) → name_in name ≡ name_of_source source
+pub is_token : (name : Option (Option Tag)) (source : Option Tag) → name_in name ≡ name_of_source source
     → (t : Tag) × (name ≡ Some (Some t))
 is_token None None e = absurd (cc)
 is_token None (Some s) e = absurd (cc)

@@ -2,10 +2,10 @@
 --
 -- The state in which the enabled processes below a number have made their events is given outright, each of these
 -- events by the state at the clock's beginning (`moved` at `made_below`). A process that hasn't yet made its event
--- finds its own part as it was, and a token that it gets is still the front of its channel: only the channel's writer
--- can have changed it, behind. So its step leads to the state given for the next number (`step_on`), and a process that
--- isn't enabled changes nothing. By induction over the numbers that are left (`in_clock`); it holds from every state,
--- reached or not.
+-- finds its own part as it was, and a token that it gets is still the front of its channel: only the channel's
+-- writer can have changed it, behind. So its step leads to the state given for the next number (`step_on`), and a
+-- process that isn't enabled changes nothing. By induction over the numbers that are left (`in_clock`); it holds
+-- from every state, reached or not.
 use Rattle.std.proofs.Common.{◌≡◌, ℕ, zero, suc, ◌+◌, ◌<◌, ◌≤◌, Bool, true, false, cond, eqb, nat_lt, Option, Some, None}
 use Rattle.std.proofs.Common.{List, [], ◌∷◌, ◌++◌, length, drop, slice_get, if◌then◌else◌, refl, sym, ap, ap₂, ◌∙◌, inl, inr}
 use Rattle.std.proofs.Common.{arith, append-nil, eqb-true, ltb-true, lt-ltb}

@@ -1,10 +1,10 @@
 -- A ring holds the tokens of a channel.
 --
--- The invariant is `Holds`: from the oldest token's place on, going round at the end, lie the queue's tokens in order,
--- and the place behind them is the free one. A token that is taken leaves the others where they are, each with a number
--- one less (`shift`), and one that is given comes to a place of none of them, since there are fewer than places
--- (`places_differ`). An edge at which both happen is one that takes and one that gives. Nothing is said of what lies in
--- places of no token.
+-- The invariant is `Holds`: from the oldest token's place on, going round at the end, lie the queue's tokens in
+-- order, and the place behind them is the free one. A token that is taken leaves the others where they are, each
+-- with a number one less (`shift`), and one that is given comes to a place of none of them, since there are fewer
+-- than places (`places_differ`). An edge at which both happen is one that takes and one that gives. Nothing is
+-- said of what lies in places of no token.
 use Rattle.std.proofs.Common.{◌≡◌, ℕ, zero, suc, ◌+◌, ◌-◌, ◌<◌, ◌≤◌, Bool, true, false, ◌&&◌, nat_lt, if◌then◌else◌}
 use Rattle.std.proofs.Common.{Option, Some, None, List, [], ◌∷◌, ◌++◌, length, drop, slice_get, slice_set, option_map}
 use Rattle.std.proofs.Common.{option_to_list, refl, sym, ap, subst, ◌∙◌, inl, inr, arith, append-nil, eq-eqb, ne_eqb, ltb-true, lt-ltb}

@@ -6,17 +6,18 @@
 -- registers again and again, so here they are kept in lists, which changes nothing (`run_is`). They are examples: no
 -- law follows from them.
 use Rattle.std.proofs.Common.{◌≡◌, ℕ, zero, suc, ◌+◌, Bool, true, false, is_none, Option, Some, None, List, [], ◌∷◌, map}
-use Rattle.std.proofs.Common.{◌++◌, slice_get, flat_map, refl, sym, ap, ◌∙◌, arith}
+use Rattle.std.proofs.Common.{◌++◌, slice_get, refl, sym, ap, ◌∙◌, arith}
 use Rattle.std.specs.Prelude.{slice_index_or}
 use Rattle.std.specs.List.{range_with_len}
 use mathlib.Core.Path.{fun_ext}
 use Rattle.sanlp.specs.declared.nest.Tag.{Tag}
 use Rattle.net_core.specs.declared.network.Event.{Event}
 use Rattle.net_core.specs.declared.network.Event.TheVariants.{Get, Fire, Put}
-use Rattle.net_core.specs.declared.refs.Ref.TheVariants.{Zero, Slot}
+use Rattle.net_core.specs.declared.refs.Ref.TheVariants.{Slot}
 use Rattle.net_core.specs.Machine.{Net}
 use Rattle.net_core.specs.Names.{tag}
 use Rattle.net_core.specs.Rules.{tags}
+use Rattle.net_core.proofs.SmallNetworks.{corner, increments, sums}
 use Rattle.repeat_sequencer.specs.declared.sequencer.Sequencer.{Sequencer}
 use Rattle.repeat_sequencer.specs.Steps.{past_ends}
 use Rattle.design_clocks.specs.Registers.{Controls, Design, Registers, after_edges, behind_reset, edge, event_at}
@@ -67,18 +68,6 @@ after_run f n controls k x e = ap f (sym (run_is n controls k)) ∙ e
 
 -- Networks
 
--- processes with these scripts and numbers of slots, and channels with these writers, readers and capacities
-abbrev network : List (List Event) → List ℕ → List ℕ → List ℕ → List ℕ → Net
-network scripts slots writers readers capacities = record {
-  processes = 3;
-  channels = 3;
-  script = λ p. slice_index_or scripts p [];
-  slots = λ p. slice_index_or slots p 0;
-  writer = λ c. slice_index_or writers c 0;
-  reader = λ c. slice_index_or readers c 0;
-  capacity = λ c. slice_index_or capacities c 0;
-}
-
 -- a counter over the events of each script
 abbrev counters : Net → Controls
 counters n = λ p. plain (n.script p)
@@ -89,19 +78,6 @@ places d = map (λ p. (d.node p).control.at) (0 ∷ 1 ∷ 2 ∷ [])
 
 abbrev done : Controls → Design Tag → List Bool
 done controls d = map (λ p. is_none (event_at controls d p)) (0 ∷ 1 ∷ 2 ∷ [])
-
--- the same events so many times
-abbrev times : ℕ → List Event → List Event
-times n events = flat_map (λ turn. events) (range_with_len 0 n)
-
--- for i < turns y[i] = x[i] + 1, with this capacity of both channels
-abbrev increments : ℕ → ℕ → Net
-increments turns capacity =
-    network
-    (times turns (Fire [] ∷ Put 0 ∷ [])
-    ∷ times turns (Get 0 0 ∷ Fire (Slot 0 ∷ []) ∷ Put 1 ∷ [])
-    ∷ times turns (Get 1 0 ∷ Fire (Slot 0 ∷ []) ∷ []) ∷ [])
-    (0 ∷ 1 ∷ 1 ∷ []) (0 ∷ 1 ∷ []) (1 ∷ 2 ∷ []) (capacity ∷ capacity ∷ [])
 
 -- one turn: source F1 P2, assignment G3 F4 P5, sink G6 F7
 one_turn : done (counters (increments 1 1)) (after_edges (increments 1 1) (counters (increments 1 1)) tags 7)
@@ -169,16 +145,6 @@ repeats_done = after_run (done repeats) (increments 3 1) repeats 13 _ refl
 -- for i < 3 s[i] = s[i - 1] + x[i]: the assignment is the reader and the writer of channel 0
 -- source F1 P2 F3 P4 F5 P6, assignment G3 F4 P5 P6 G7 G8 F9 P10 P11 G12 G13 F14 P15, sink G7 F8 G12 F13 G16 F17
 
-abbrev sums : Net
-sums =
-    network
-    (times 3 (Fire [] ∷ Put 1 ∷ [])
-    ∷ (Get 1 1 ∷ Fire (Zero ∷ Slot 1 ∷ []) ∷ Put 0 ∷ Put 2
-    ∷ Get 0 0 ∷ Get 1 1 ∷ Fire (Slot 0 ∷ Slot 1 ∷ []) ∷ Put 0 ∷ Put 2
-    ∷ Get 0 0 ∷ Get 1 1 ∷ Fire (Slot 0 ∷ Slot 1 ∷ []) ∷ Put 2 ∷ [])
-    ∷ times 3 (Get 2 0 ∷ Fire (Slot 0 ∷ []) ∷ []) ∷ [])
-    (0 ∷ 2 ∷ 1 ∷ []) (1 ∷ 0 ∷ 1 ∷ []) (1 ∷ 1 ∷ 2 ∷ []) (1 ∷ 3 ∷ 3 ∷ [])
-
 sums_at_ten : places (after_edges sums (counters sums) tags 10) ≡ 6 ∷ 8 ∷ 2 ∷ []
 unfolding past_ends
 sums_at_ten = after_run places sums (counters sums) 10 _ refl
@@ -194,16 +160,6 @@ sums_done = after_run (done (counters sums)) sums (counters sums) 17 _ refl
 -- for j < 2 for i < 2 b[j][i] = a[i][j]: the nodes are done at the edges 8, 14 and 16
 -- source F1 P2 F3 P4 F5 P6 F7 P8, assignment G3 F4 P5 G6 G7 F8 P9 F10 P11 G12 F13 P14,
 -- sink G6 F7 G10 F11 G12 F13 G15 F16
-
-abbrev corner : Net
-corner =
-    network
-    (times 4 (Fire [] ∷ Put 0 ∷ [])
-    ∷ (Get 0 0 ∷ Fire (Slot 0 ∷ []) ∷ Put 1
-    ∷ Get 0 0 ∷ Get 0 1 ∷ Fire (Slot 1 ∷ []) ∷ Put 1 ∷ Fire (Slot 0 ∷ []) ∷ Put 1
-    ∷ Get 0 0 ∷ Fire (Slot 0 ∷ []) ∷ Put 1 ∷ [])
-    ∷ times 4 (Get 1 0 ∷ Fire (Slot 0 ∷ []) ∷ []) ∷ [])
-    (0 ∷ 2 ∷ 1 ∷ []) (0 ∷ 1 ∷ []) (1 ∷ 2 ∷ []) (4 ∷ 4 ∷ [])
 
 corner_at_seven : done (counters corner) (after_edges corner (counters corner) tags 7) ≡ false ∷ false ∷ false ∷ []
 unfolding past_ends

@@ -1,8 +1,9 @@
 -- The clocked run of the ports is at no clock behind that of the scripts.
 --
--- By induction on the clocks all that have come there have come here. An event that comes there at the next clock is the first of its
--- process that hasn't come there, and it may come at their cut. If it hasn't come here either, it may come here, since all before the
--- cut have (`may_from_cut`); so it comes at this clock too. How much sooner the ports come isn't a matter of this file.
+-- By induction on the clocks all that have come there have come here. An event that comes there at the next clock
+-- is the first of its process that hasn't come there, and it may come at their cut. If it hasn't come here either,
+-- it may come here, since all before the cut have (`may_from_cut`); so it comes at this clock too. How much sooner
+-- the ports come isn't a matter of this file.
 use Rattle.std.proofs.Common.{◌≡◌, ℕ, zero, suc, ◌+◌, ◌<◌, ◌≤◌, Bool, true, cond, length}
 use Rattle.std.proofs.Common.{ap, sym, subst, ◌∙◌, refl, inl, inr, arith}
 use Rattle.std.specs.List.{filter, range_with_len}

@@ -1,8 +1,8 @@
 -- One clock of the ports: it is a run, and each event that may come at its beginning comes in it.
 --
--- A Put comes in the first part. A Fire isn't among the Puts, so it still may come behind them, and a Get still may behind the fires.
--- So a clock without events is one at whose beginning nothing may come (`nothing_may`). Which events come is a matter of those that
--- have come, whatever fires give (`same_clock`).
+-- A Put comes in the first part. A Fire isn't among the Puts, so it still may come behind them, and a Get still
+-- may behind the fires. So a clock without events is one at whose beginning nothing may come (`nothing_may`).
+-- Which events come is a matter of those that have come, whatever fires give (`same_clock`).
 use Rattle.std.proofs.Common.{◌≡◌, ◌⊎◌, ℕ, ◌+◌, ◌<◌, Bool, true, false, ◌&&◌, List, []}
 use Rattle.std.proofs.Common.{◌∷◌, ◌++◌, length, ap, ap₂, sym, subst, ◌∙◌, refl, inl, inr, arith}
 use Rattle.std.specs.Option.{option_map_or}

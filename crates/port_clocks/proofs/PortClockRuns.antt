@@ -1,8 +1,9 @@
 -- The clocked run of the ports ends all, within the clocks of that of the scripts.
 --
--- At the clock at which the run of the scripts has ended all have come here (NotBehind), so no event comes any more: the first
--- such clock is no later (`few_clocks`). There nothing may come, and every run goes on until all have come, so all have. Which
--- events come is the same whatever fires give (`same_clocks`), so the clocks are counted over tags.
+-- At the clock at which the run of the scripts has ended all have come here (NotBehind), so no event comes any
+-- more: the first such clock is no later (`few_clocks`). There nothing may come, and every run goes on until all
+-- have come, so all have. Which events come is the same whatever fires give (`same_clocks`), so the clocks are
+-- counted over tags.
 use Rattle.std.proofs.Common.{◌≡◌, ℕ, zero, suc, ◌+◌, ◌<◌, ◌≤◌, true, false, not, List, [], ◌∷◌, ◌++◌, length}
 use Rattle.std.proofs.Common.{ap, sym, ◌∙◌, refl, inl, inr, arith}
 use Rattle.std.specs.List.{range_with_len}

@@ -1,9 +1,10 @@
 -- One part of a clock: events that may all come at its beginning come one after the other.
 --
--- Of two events that may come neither hinders the other (`stays`): what is due stays due, and the two aren't at one port, since of
--- two of one port in a script only the earlier is due. So of a list in which each place stands once all that may come at the
--- beginning still may when their turn comes. The list is gone through process by process and place by place (`process_part`,
--- `net_part`), beside what holds of the events that aren't in it: they still may come. Fires of any values are meant.
+-- Of two events that may come neither hinders the other (`stays`): what is due stays due, and the two aren't at
+-- one port, since of two of one port in a script only the earlier is due. So of a list in which each place stands
+-- once all that may come at the beginning still may when their turn comes. The list is gone through process by
+-- process and place by place (`process_part`, `net_part`), beside what holds of the events that aren't in it: they
+-- still may come. Fires of any values are meant.
 use Rattle.std.proofs.Common.{◌≡◌, ℕ, zero, suc, ◌+◌, ◌<◌, ◌≤◌, Bool, true, false, Some, List, [], ◌∷◌, ◌++◌}
 use Rattle.std.proofs.Common.{length, map, slice_get, ap, ap₂, sym, subst, ◌∙◌, refl, inl, inr, arith, ltb-true, lt-ltb}
 use Rattle.std.proofs.Common.{eq-eqb}

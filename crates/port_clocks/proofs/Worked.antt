@@ -1,43 +1,16 @@
 -- Clocked runs of the ports of small networks, computed from the definitions. The clocks were counted by hand.
 --
--- Above the rows of a network stands at which clocks each process makes its Gets (G), Fires (F) and Puts (P), as it was reckoned.
--- A token that is put at one clock is got at the next one at the earliest, and a place that a Get leaves at one clock is taken at
--- the next one. A process puts a value, fires the next and gets operands for the one after at one clock. They are examples: no law
--- follows from them.
-use Rattle.std.proofs.Common.{◌≡◌, ℕ, List, [], ◌∷◌, flat_map, length, refl}
-use Rattle.std.specs.Prelude.{slice_index_or}
-use Rattle.std.specs.List.{range_with_len}
-use Rattle.net_core.specs.declared.network.Event.{Event}
+-- Above the rows of a network stands at which clocks each process makes its Gets (G), Fires (F) and Puts (P), as
+-- it was reckoned. A token that is put at one clock is got at the next one at the earliest, and a place that a Get
+-- leaves at one clock is taken at the next one. A process puts a value, fires the next and gets operands for the
+-- one after at one clock. They are examples: no law follows from them.
+use Rattle.std.proofs.Common.{◌≡◌, ℕ, [], ◌∷◌, refl}
 use Rattle.net_core.specs.declared.network.Event.TheVariants.{Get, Fire, Put}
-use Rattle.net_core.specs.declared.refs.Ref.TheVariants.{Zero, Slot}
+use Rattle.net_core.specs.declared.refs.Ref.TheVariants.{Slot}
 use Rattle.net_core.specs.Machine.{Net}
 use Rattle.net_core.specs.Rules.{tags}
+use Rattle.net_core.proofs.SmallNetworks.{increments, network, sums, times}
 use Rattle.port_clocks.specs.PortClocks.{after_port_clocks, events_of_clock, port_clocks}
-
--- processes with these scripts and numbers of slots, and channels with these writers, readers and capacities
-abbrev network : List (List Event) → List ℕ → List ℕ → List ℕ → List ℕ → Net
-network scripts slots writers readers capacities = record {
-  processes = length scripts;
-  channels = length capacities;
-  script = λ p. slice_index_or scripts p [];
-  slots = λ p. slice_index_or slots p 0;
-  writer = λ c. slice_index_or writers c 0;
-  reader = λ c. slice_index_or readers c 0;
-  capacity = λ c. slice_index_or capacities c 0;
-}
-
--- the same events so many times
-abbrev times : ℕ → List Event → List Event
-times n events = flat_map (λ turn. events) (range_with_len 0 n)
-
--- for i < turns y[i] = x[i] + 1, with this capacity of both channels
-abbrev increments : ℕ → ℕ → Net
-increments turns capacity =
-    network
-    (times turns (Fire [] ∷ Put 0 ∷ [])
-    ∷ times turns (Get 0 0 ∷ Fire (Slot 0 ∷ []) ∷ Put 1 ∷ [])
-    ∷ times turns (Get 1 0 ∷ Fire (Slot 0 ∷ []) ∷ []) ∷ [])
-    (0 ∷ 1 ∷ 1 ∷ []) (0 ∷ 1 ∷ []) (1 ∷ 2 ∷ []) (capacity ∷ capacity ∷ [])
 
 -- One turn: each event waits for the one before it.
 -- source F1 P2, assignment G3 F4 P5, sink G6 F7
@@ -95,16 +68,6 @@ third_clock = refl
 
 -- for i < 3 s[i] = s[i - 1] + x[i]: the assignment is the reader and the writer of channel 0, so it fires at every third clock
 -- source F1 P2 F2 P3 F3 P4, assignment G3 F4 G4 P5 P5 G6 F7 G7 P8 P8 G9 F10 P11, sink G6 F7 G9 F10 G12 F13
-
-abbrev sums : Net
-sums =
-    network
-    (times 3 (Fire [] ∷ Put 1 ∷ [])
-    ∷ (Get 1 1 ∷ Fire (Zero ∷ Slot 1 ∷ []) ∷ Put 0 ∷ Put 2
-    ∷ Get 0 0 ∷ Get 1 1 ∷ Fire (Slot 0 ∷ Slot 1 ∷ []) ∷ Put 0 ∷ Put 2
-    ∷ Get 0 0 ∷ Get 1 1 ∷ Fire (Slot 0 ∷ Slot 1 ∷ []) ∷ Put 2 ∷ [])
-    ∷ times 3 (Get 2 0 ∷ Fire (Slot 0 ∷ []) ∷ []) ∷ [])
-    (0 ∷ 2 ∷ 1 ∷ []) (1 ∷ 0 ∷ 1 ∷ []) (1 ∷ 1 ∷ 2 ∷ []) (1 ∷ 3 ∷ 3 ∷ [])
 
 sums_clocks : port_clocks sums ≡ 13
 unfolding port_clocks

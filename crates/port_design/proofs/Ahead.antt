@@ -1,29 +1,23 @@
--- What items are made of the part of a script that lies ahead of a place: those of the next event, and of the part behind it.
+-- What items are made of the part of a script that lies ahead of a place: those of the next event, and of the part
+-- behind it.
 --
--- A list of items that passes over the events that aren't of a kind is the same from a place on as from the next event of that kind
--- on, and where none is left it is that of no event. The three lists of items are such: a process's for its Fires, a Get port's for
--- the Gets of its channel and the Fires, and a Put port's for its Puts and the Fires.
-use Rattle.std.proofs.Common.{◌≡◌, ℕ, zero, suc, ◌+◌, ◌-◌, ◌<◌, ◌≤◌, Bool, false, eqb, Option, Some, None, List}
-use Rattle.std.proofs.Common.{[], ◌∷◌, length, drop, slice_get, ap, sym, ◌∙◌, refl, arith}
+-- A list of items that passes over the events that aren't of a kind is the same from a place on as from the next
+-- event of that kind on, and where none is left it is that of no event. The three lists of items are such: a
+-- process's for its Fires, a Get port's for the Gets of its channel and the Fires, and a Put port's for its Puts
+-- and the Fires.
+use Rattle.std.proofs.Common.{◌≡◌, ℕ, zero, suc, ◌+◌, ◌-◌, ◌<◌, ◌≤◌, Bool, false, eqb, Some, List}
+use Rattle.std.proofs.Common.{[], ◌∷◌, length, drop, slice_get, ap, sym, ◌∙◌, refl, inl, inr, arith}
 use Rattle.std.proofs.lemmas.Bool.{or_parts}
 use Rattle.std.proofs.lemmas.List.{drop_all}
+use Rattle.std.proofs.lemmas.Option.{slice_get_cases}
 use Rattle.net_core.specs.declared.network.Event.{Event}
 use Rattle.net_core.specs.declared.network.Event.TheVariants.{Get, Fire, Put}
 use Rattle.net_core.specs.Shape.{is_fire}
+use Rattle.plain_data.proofs.Lists.{drop-some}
 use Rattle.port_items.specs.declared.items.GetItem.{GetItem}
 use Rattle.port_items.specs.Items.{fire_items, get_items_before, put_items}
 use Rattle.port_design.specs.Clocked.{HasPassed, is_get_or_fire, is_put_or_fire}
 use Rattle.port_design.proofs.Places.{NextIs, NoneLeft, next_late, next_skips}
-
-pub drop_next : {A : Type 0} (xs : List A) (k : ℕ) (x : A) → slice_get xs k ≡ Some x → drop k xs ≡ x ∷ drop (suc k) xs
-drop_next [] k x is = absurd (cc)
-drop_next (y ∷ xs) zero x is = let same : y ≡ x = cc in ap (λ z. z ∷ xs) same
-drop_next (y ∷ xs) (suc k) x is = drop_next xs k x is
-
-none_past : {A : Type 0} (xs : List A) (k : ℕ) → slice_get xs k ≡ None → length xs ≤ k
-none_past [] k none = omega arith
-none_past (x ∷ xs) zero none = absurd (cc)
-none_past (x ∷ xs) (suc k) none = omega (arith, none_past xs k none)
 
 module _ {X : Type 0} (items : List Event → X) (kind : Event → Bool)
     (skips : (e : Event) (script : List Event) → kind e ≡ false → items (e ∷ script) ≡ items script)
@@ -33,17 +27,14 @@ module _ {X : Type 0} (items : List Event → X) (kind : Event → Bool)
       → items (drop a script) ≡ items (drop i script)
   skip_to zero a i sum none = let same : a ≡ i = omega arith in ap (λ k. items (drop k script)) same
   skip_to (suc m) a i sum none =
-      over (slice_get script a) refl (skip_to m (suc a) i (omega arith) (λ k f ge lt. none k f (omega arith) lt))
-    where
-      over : (o : Option Event) → slice_get script a ≡ o → items (drop (suc a) script) ≡ items (drop i script)
-          → items (drop a script) ≡ items (drop i script)
-      over None is later =
-          let past = none_past script a is in
-          ap items (drop_all a script past ∙ sym (drop_all i script (omega arith)))
-      over (Some e) is later =
-          let lt : a < i = omega arith in
-          ap items (drop_next script a e is) ∙ skips e (drop (suc a) script) (none a e (omega arith) lt is)
-          ∙ later
+      elim (slice_get_cases script a).1 [
+        | inl x ↦
+            let lt : a < i = omega arith in
+            ap items (drop-some script a x.0 x.2)
+            ∙ skips x.0 (drop (suc a) script) (none a x.0 (omega arith) lt x.2)
+            ∙ skip_to m (suc a) i (omega arith) (λ k f ge lt. none k f (omega arith) lt)
+        | inr past ↦ ap items (drop_all a script past.0 ∙ sym (drop_all i script (omega (arith, past.0))))
+      ]
 
   -- the next event is in front
   pub at_next : (come : ℕ → Bool) (place i : ℕ) (e : Event) → HasPassed kind script come place
@@ -52,7 +43,7 @@ module _ {X : Type 0} (items : List Event → X) (kind : Event → Bool)
   at_next come place i e passed x =
       let late : place ≤ i = next_late kind script come place passed i e x in
       skip_to (i - place) place i (omega arith) (next_skips kind script come place passed i e x)
-      ∙ ap items (drop_next script i e x.is)
+      ∙ ap items (drop-some script i e x.is)
 
   pub at_none : (place : ℕ) → NoneLeft kind script place → items (drop place script) ≡ items []
   at_none place none =

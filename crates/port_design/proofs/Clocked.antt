@@ -1,19 +1,21 @@
--- The design stands for the clocked run of the ports, edge by edge and clock by clock, so it rests where that one ends.
+-- The design stands for the clocked run of the ports, edge by edge and clock by clock, so it rests where that one
+-- ends.
 --
--- The invariant is that after so many edges the design stands for the state after so many clocks. A reset gives that of the start:
--- a Get port that begins behind a Fire waits for it, and no Put stands before a Fire. An edge leads on (`edge_stands`). Where a port
--- moves at an edge an event of its process comes in the clock, one that hasn't come; so nothing moves from the end of the clocked run
--- on. Before, some event comes in each clock, and with it a port moves or a process fires.
+-- The invariant is that after so many edges the design stands for the state after so many clocks. A reset gives
+-- that of the start: a Get port that begins behind a Fire waits for it, and no Put stands before a Fire. An edge
+-- leads on (`edge_stands`). Where a port moves at an edge an event of its process comes in the clock, one that
+-- hasn't come; so from the end of the clocked run on nothing moves, and each sequencer is at its end, as nothing is
+-- left (`done_then`). Before, some event comes in each clock, and with it a port moves or a process fires.
 use Rattle.std.proofs.Common.{◌≡◌, ℕ, zero, suc, ◌+◌, ◌-◌, ◌<◌, ◌≤◌, ℤ, Bool, true, false, is_some, Option, Some}
 use Rattle.std.proofs.Common.{None, List, [], ◌∷◌, ◌++◌, length, map, take, drop, slice_get, count_by, option_map, option_to_list}
-use Rattle.std.proofs.Common.{ap, ap₂, sym, subst, ◌∙◌, refl, inl, inr, arith, eqb, eq-eqb}
+use Rattle.std.proofs.Common.{ap, ap₂, sym, subst, ◌∙◌, refl, inl, inr, arith, eqb, eq-eqb, ◌&&◌, cond}
 use Rattle.std.specs.List.{filter}
-use Rattle.std.proofs.lemmas.Bool.{and_from, and_parts, both_ways, cases_Bool, cases_lt, cond-false, false_from_ne_true, or_cases, or_left}
+use Rattle.std.specs.Option.{option_map_or}
+use Rattle.std.proofs.lemmas.Bool.{and_from, and_left, and_parts, both_ways, cases_Bool, cases_lt, cond-false, false_from_ne_true, or_cases, or_left}
 use Rattle.std.proofs.lemmas.Option.{slice_get-map, slice_get_within}
 use mathlib.Core.Path.{fun_ext}
 use Rattle.sanlp.specs.declared.nest.Inputs.{Inputs}
 use Rattle.sanlp.specs.declared.nest.Nest.{Nest}
-use Rattle.sanlp.specs.declared.nest.Tag.{Tag}
 use Rattle.sanlp.specs.WellFormed.{output_numbers}
 use Rattle.net_core.specs.declared.refs.Ref.{Ref}
 use Rattle.net_core.specs.declared.refs.Ref.TheVariants.{Slot}
@@ -21,13 +23,16 @@ use Rattle.net_core.specs.declared.network.Event.{Event}
 use Rattle.net_core.specs.declared.network.Event.TheVariants.{Get, Fire, Put}
 use Rattle.net_core.specs.declared.network.Network.{Network}
 use Rattle.net_core.specs.Machine.{Net, Rule, net_of}
-use Rattle.net_core.specs.Names.{name_in, slot_names}
+use Rattle.net_core.specs.Names.{slot_names}
 use Rattle.net_core.specs.Rules.{values}
 use Rattle.net_core.specs.Shape.{fires as fires_before, is_any_get, is_fire, is_put, IsWired}
-use Rattle.net_core.specs.Sound.{IsSound, name_of_source, sink_lists, sink_lists_from, source_tag, tag_value}
+use Rattle.net_core.specs.Sound.{IsSound, sink_lists, sink_lists_from, source_tag, tag_value}
+use Rattle.design_clocks.proofs.FilledSlots.{is_token}
 use Rattle.repeat_sequencer.specs.Steps.{at_start}
+use Rattle.port_items.specs.declared.items.GetItem.{GetItem}
 use Rattle.port_items.specs.declared.items.PutItem.{PutItem}
-use Rattle.port_items.specs.Items.{begins_with_fire, begins_with_put, fire_if, get_items_before, put_items}
+use Rattle.port_items.specs.Items.{begins_with_fire, begins_with_put, fire_if, fire_items, get_items_before, put_items}
+use Rattle.port_items.specs.Items.{without_fire, without_put}
 use Rattle.port_items.proofs.Lengths.{begins_alike}
 use Rattle.port_runs.specs.Ports.{AllHaveCome, IsPortRun, EventPlace, PortState, PortsEndAlways, port_after, port_reached, port_start}
 use Rattle.port_runs.specs.PortNames.{HoldsNames}
@@ -38,18 +43,32 @@ use Rattle.port_clocks.proofs.NotBehind.{clocked_ports, counted_after}
 use Rattle.port_clocks.proofs.OneClock.{behind_clock}
 use Rattle.port_clocks.proofs.PortParts.{come_grows, port_after_append, port_run_append}
 use Rattle.port_design.specs.Registers.{Controls, Design, after_edges, asks, begins_behind_fire, behind_reset, edge, fires, fires_of, gets}
-use Rattle.port_design.specs.Registers.{is_valid, no_stalls, puts, refs_fired, slot_asked, value_of}
-use Rattle.port_design.specs.Clocked.{FiresFindValues, GiveItems, GivesFrom, HasPassed, HasSlotsApart, IsAtRest, RunsByPortClock}
-use Rattle.port_design.specs.Clocked.{StandsFor, TakesPortClocks, gets_from, is_get_or_fire, is_put_or_fire, results_of}
-use Rattle.port_design.proofs.Ahead.{at_next, at_none, puts_skip}
+use Rattle.port_design.specs.Registers.{get_at, is_free, is_ready, is_valid, may_fire, no_stalls, puts, refs_at, refs_fired}
+use Rattle.port_design.specs.Registers.{slot_asked, value_of}
+use Rattle.port_design.specs.Clocked.{FiresFindValues, GiveItems, GivesFrom, HasPassed, HasSlotsApart, IsAtRest, IsDone}
+use Rattle.port_design.specs.Clocked.{RunsByPortClock, StandsFor, TakesPortClocks, gets_from, is_get_or_fire, is_put_or_fire}
+use Rattle.port_design.specs.Clocked.{puts_from, results_of}
+use Rattle.port_design.proofs.Ahead.{at_next, at_none, fires_skip, gets_skip, puts_skip}
 use Rattle.port_design.proofs.Edge.{edge_stands, kept_edge}
 use Rattle.port_design.proofs.FirePart.{all, after1, fire_comes, fire_found, fire_test}
 use Rattle.port_design.proofs.Fronts.{fire_front, same_without_put}
 use Rattle.port_design.proofs.GetPart.{after2, fire_between, get_any, get_comes, get_found, get_test, some_of}
 use Rattle.port_design.proofs.Next.{fire_is, part_run, test_coming, test_kind}
-use Rattle.port_design.proofs.Places.{NextIs, find_next}
+use Rattle.port_design.proofs.Given.{item_none}
+use Rattle.port_design.proofs.Places.{NextIs, NoneLeft, find_next}
 use Rattle.port_design.proofs.Offers.{offered_is_there}
 use Rattle.port_design.proofs.PutPart.{put_comes, put_found, put_test, values_behind}
+
+-- nothing comes of nothing, whichever way is taken
+module _ {X : Type 0} where
+  none_either : (b : Bool) (o : Option X) → o ≡ None → is_some (cond b o None) ≡ false
+  none_either true o none = ap (λ (x : Option X). is_some x) none
+  none_either false o none = refl
+
+-- behind the script no item is left but a Fire that is waited for
+nothing_behind : (b : Bool) → without_fire (fire_if b) ≡ []
+nothing_behind true = refl
+nothing_behind false = refl
 
 -- where no place passes a test
 none_passes : (test : EventPlace → Bool) → ((at : EventPlace) → test at ≡ true → ⊥) → (xs : List EventPlace)
@@ -214,6 +233,61 @@ module _ {T : Type 0} (n : Net) (controls : Controls) (rule : Rule T) (wired : I
             both_ways ((after1 n controls rule wired s d here).has_come p x.0) x.1.new
             (come_grows n rule (puts_of_clock n s) s p x.0 (come p x.0 (slice_get_within _ x.0 (Fire refs) x.1.is)))
 
+    -- and each sequencer is at its end
+    pub done_then : AllHaveCome n s → IsDone controls d
+    done_then come = record {
+      fires = λ p.
+          let at = here.nodes p in
+          item_none (controls.fires p) (d.node p).control
+          (subst (λ (items : List (List Ref)). GivesFrom (controls.fires p) (d.node p).control items)
+          (at_none fire_items is_fire fires_skip (n.script p) at.place (none_left is_fire p at.place at.passed)) at.gives);
+      gets = λ c.
+          let at = here.getters c in
+          item_none (controls.gets c) (d.getter c).control
+          (subst (λ (items : List GetItem). GivesFrom (controls.gets c) (d.getter c).control items)
+          (ap without_fire (gets_ended c) ∙ nothing_behind (begins_behind_fire n c)) at.gives);
+      puts = λ c.
+          let at = here.putters c in
+          item_none (controls.puts c) (d.putter c).control
+          (subst (λ (items : List PutItem). GivesFrom (controls.puts c) (d.putter c).control items)
+          (ap without_put (puts_ended c)) at.gives);
+      clear = λ c. (here.putters c).waits ∙ ap begins_with_put (puts_ended c);
+    }
+      where
+        none_left : (kind : Event → Bool) (p place : ℕ) → HasPassed kind (n.script p) (s.has_come p) place
+            → NoneLeft kind (n.script p) place
+        none_left kind p place passed =
+            elim (find_next kind (n.script p) (s.has_come p) place passed) [
+              | inl x ↦
+                  absurd (both_ways (s.has_come p x.0) x.2.new
+                  (come p x.0 (slice_get_within (n.script p) x.0 x.1 x.2.is)))
+              | inr none ↦ none
+            ]
+
+        gets_ended : (c : ℕ) → gets_from n c (here.getters c).place ≡ fire_if (begins_behind_fire n c)
+        gets_ended c =
+            let at = here.getters c in
+            let behind = fire_if (begins_behind_fire n c) in
+            at_none (get_items_before c behind) (is_get_or_fire c) (gets_skip c behind) (n.script (n.reader c)) at.place
+            (none_left (is_get_or_fire c) (n.reader c) at.place at.passed)
+
+        puts_ended : (c : ℕ) → puts_from n c (here.putters c).place ≡ []
+        puts_ended c =
+            let at = here.putters c in
+            at_none (put_items c) (is_put_or_fire c) (puts_skip c) (n.script (n.writer c)) at.place
+            (none_left (is_put_or_fire c) (n.writer c) at.place at.passed)
+
+    -- a design that is done is at rest
+    pub rest_if_done : IsDone controls d → IsAtRest n controls d
+    rest_if_done done = record {
+      fires = λ p. none_either (all p && may_fire n controls d p) (refs_at controls d p) (done.fires p);
+      puts = λ c. and_left (d.putter c).waits (is_ready n d c) (done.clear c);
+      gets = λ c.
+          and_left (asks n controls all d c) (is_valid d c)
+          (none_either (is_free n controls all d c) (option_map_or (λ (i : GetItem). i.get) (get_at controls d c) None)
+          (ap (λ (o : Option GetItem). option_map_or (λ (i : GetItem). i.get) o None) (done.gets c)));
+    }
+
     -- where nothing moves no event comes
     pub still_at_rest : IsAtRest n controls d → events_of_clock n rule s ≡ []
     still_at_rest rest =
@@ -295,21 +369,13 @@ module _ {T : Type 0} (n : Net) (controls : Controls) (rule : Rule T) (wired : I
     pub takes_clocks : PortsEndAlways n rule → TakesPortClocks n controls rule
     takes_clocks always = record {
       rests = λ k. (λ late. rests k (all_come k late), late_at_rest k);
+      done = λ k. (λ late. done_then k (all_come k late), λ done. late_at_rest k (rest_if_done k done));
       fits = λ k c.
           subst (λ (q : List T). length q ≤ n.capacity c) (sym ((stands_for k).queues c))
           (always.fits (clocked_port_run n rule k) (ends.run k) c);
     }
 
 -- Values
-
--- what names a last writer, or Zero, and is a slot, names a token
-is_token : (name : Option (Option Tag)) (source : Option Tag) → name_in name ≡ name_of_source source
-    → (t : Tag) × (name ≡ Some (Some t))
-is_token None None e = absurd (cc)
-is_token None (Some s) e = absurd (cc)
-is_token (Some None) None e = absurd (cc)
-is_token (Some None) (Some s) e = absurd (cc)
-is_token (Some (Some t)) source e = (t, refl)
 
 pub outputs_alike : (nest : Nest) (n : Net) (controls : Controls) (rule : Rule ℤ) → IsWired n → HasSlotsApart n
     → GiveItems n controls

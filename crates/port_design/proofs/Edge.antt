@@ -1,9 +1,9 @@
 -- An edge of a design that stands for a state of the ports leads to one that stands for the state after a clock.
 --
--- Each register is followed through the three parts of the clock: a Put port through the Puts and the fires, a process through the
--- fires and the Gets, and a Get port through the fires and the Gets. What its sequencer gives next is told by the event that is next
--- in its script, so it takes its item exactly where its port is past the events of that item. A queue loses its front by a Get and
--- gains a token by a Put.
+-- Each register is followed through the three parts of the clock: a Put port through the Puts and the fires, a
+-- process through the fires and the Gets, and a Get port through the fires and the Gets. What its sequencer gives
+-- next is told by the event that is next in its script, so it takes its item exactly where its port is past the
+-- events of that item. A queue loses its front by a Get and gains a token by a Put.
 use Rattle.std.proofs.Common.{◌≡◌, ◌⊎◌, ℕ, suc, ◌<◌, Bool, true, false, cond, is_some, Option, Some}
 use Rattle.std.proofs.Common.{None, List, [], ◌∷◌, ◌++◌, length, map, drop, slice_get, option_to_list, ap, ap₂, sym, subst, ◌∙◌, refl}
 use Rattle.std.proofs.Common.{inl, inr, arith, append-nil, length-append, ltb-true}
@@ -16,6 +16,7 @@ use Rattle.net_core.specs.Shape.{is_any_get, is_fire, is_put, IsWired}
 use Rattle.net_core.proofs.TwoSteps.{drop_append}
 use Rattle.repeat_sequencer.specs.declared.sequencer.Sequencer.{Sequencer}
 use Rattle.repeat_sequencer.specs.Steps.{step}
+use Rattle.design_clocks.proofs.Edges.{last_alike, last_append}
 use Rattle.port_items.specs.declared.items.GetItem.{GetItem}
 use Rattle.port_items.specs.declared.items.PutItem.{PutItem}
 use Rattle.port_items.specs.Items.{begins_with_fire, begins_with_put, fire_items, only_fire, only_put, put_items, without_fire}
@@ -37,16 +38,6 @@ use Rattle.port_design.proofs.Given.{gives_rest, item_is}
 use Rattle.port_design.proofs.Next.{come_apart}
 use Rattle.port_design.proofs.Places.{find_next, passed_same}
 use Rattle.port_design.proofs.PutPart.{putter_behind, queue_grows, queue_stays}
-
-last_append : {T : Type 0} (kept : List T) (x : T) → last_of (kept ++ x ∷ []) ≡ x ∷ []
-last_append [] x = refl
-last_append (y ∷ []) x = refl
-last_append (y ∷ (z ∷ kept)) x = last_append (z ∷ kept) x
-
-last_alike : {T : Type 0} (kept : List T) → option_to_list (front (last_of kept)) ≡ last_of kept
-last_alike [] = refl
-last_alike (x ∷ []) = refl
-last_alike (x ∷ (y ∷ kept)) = last_alike (y ∷ kept)
 
 -- Registers by what is known of the wires
 

@@ -1,8 +1,8 @@
 -- What a run of events does to one thing in a state, where at most one event of the run changes it.
 --
--- An event comes at most once. So where the one place whose event changes the thing has come before the run, nothing does
--- (`unchanged`), and where it comes in the run, the thing is changed once (`changed`), whatever comes before or behind it. Where no
--- event of the run changes it, it stays as it is (`still`).
+-- An event comes at most once. So where the one place whose event changes the thing has come before the run,
+-- nothing does (`unchanged`), and where it comes in the run, the thing is changed once (`changed`), whatever comes
+-- before or behind it. Where no event of the run changes it, it stays as it is (`still`).
 use Rattle.std.proofs.Common.{◌≡◌, ℕ, Bool, true, false, List, [], ◌∷◌, ap, ap₂, sym, subst, ◌∙◌, refl, inl, inr}
 use Rattle.std.specs.List.{filter}
 use Rattle.std.proofs.lemmas.Bool.{both_ways, cases_Bool, cases_eq, cond-true, cond-false}

@@ -1,10 +1,10 @@
 -- The fires of an edge are those of the clock.
 --
--- A Fire comes in the clock where all before it in its script has come, once the Puts have. So it is next of all that the process
--- and its ports see: its Get ports wait for it, and its Put ports are past all that was fired before (`fire_comes`). Where a process
--- fires at the edge, its ports say the same of each event before the Fire: none of what a port sees is left before that (`fire_found`).
--- Behind the fires each Get port is past its process's Fire, or where it was, and what its sequencer gives is told by whether it is
--- free (`getter_behind`).
+-- A Fire comes in the clock where all before it in its script has come, once the Puts have. So it is next of all
+-- that the process and its ports see: its Get ports wait for it, and its Put ports are past all that was fired
+-- before (`fire_comes`). Where a process fires at the edge, its ports say the same of each event before the Fire:
+-- none of what a port sees is left before that (`fire_found`). Behind the fires each Get port is past its
+-- process's Fire, or where it was, and what its sequencer gives is told by whether it is free (`getter_behind`).
 use Rattle.std.proofs.Common.{◌≡◌, ℕ, suc, ◌<◌, Bool, true, false, not, ◌||◌, cond, eqb, is_some, Option, Some, None}
 use Rattle.std.proofs.Common.{List, [], ◌∷◌, ◌++◌, length, drop, slice_get, ap, ap₂, sym, subst, ◌∙◌, refl, inl, inr, arith}
 use Rattle.std.proofs.Common.{eq-eqb, eqb-true}

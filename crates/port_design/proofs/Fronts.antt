@@ -1,4 +1,10 @@
 -- The item in front of a list of items, by the event that is next.
+--
+-- Where the next event is a Put of the port it is an item by itself (`put_front`), and a Fire is one with the Put
+-- behind it, if that is next (`fire_front`); so where an item with a Fire is in front, the next event is that Fire
+-- (`fire_from_front`). A Get is an item with the Fire behind it, if that is next (`get_front`). A list that
+-- doesn't begin so has nothing taken off (`same_without_put`, `same_without_fire`). All by cases on one event or
+-- one item. Which event is next is told in Ahead.
 use Rattle.std.proofs.Common.{◌≡◌, ◌⊎◌, ℕ, Bool, true, false, not, cond, eqb, Option, Some, None, List, [], ◌∷◌, slice_get}
 use Rattle.std.proofs.Common.{ap, sym, ◌∙◌, refl, inl, inr, eq-eqb, eqb-true}
 use Rattle.std.specs.Option.{option_map_or}

@@ -1,10 +1,11 @@
 -- The Gets of an edge are those of the clock.
 --
--- A Get comes in the clock, once the Fires have, where its channel had a token and all on which it depends have come: the Fires and
--- the Gets of its channel before it, so it is next at its port, and the port is free and asks for its slot (`get_comes`). Where a port
--- asks for a token that is there, its next event is that Get (`get_found`). This depends too on Gets of other channels into the same
--- slot: those with a Fire between have come with that Fire, and without one there are none, since channels keep their slots apart.
--- So each slot is filled by one Get at most (`slots_filled`). It isn't said here what a slot is good for.
+-- A Get comes in the clock, once the Fires have, where its channel had a token and all on which it depends have
+-- come: the Fires and the Gets of its channel before it, so it is next at its port, and the port is free and asks
+-- for its slot (`get_comes`). Where a port asks for a token that is there, its next event is that Get
+-- (`get_found`). This depends too on Gets of other channels into the same slot: those with a Fire between have
+-- come with that Fire, and without one there are none, since channels keep their slots apart. So each slot is
+-- filled by one Get at most (`slots_filled`). It isn't said here what a slot is good for.
 use Rattle.std.proofs.Common.{◌≡◌, ◌⊎◌, ℕ, zero, suc, ◌+◌, ◌-◌, ◌<◌, ◌≤◌, Bool, true, false, cond, eqb, is_some}
 use Rattle.std.proofs.Common.{nat_lt, Option, Some, None, List, [], ◌∷◌, ◌++◌, length, drop, take, slice_get, slice_set}
 use Rattle.std.proofs.Common.{count_by, option_map, get_or, ap, ap₂, sym, subst, ◌∙◌, refl, inl, inr, arith, eq-eqb, eqb-true, ltb-true, lt-ltb}
@@ -15,13 +16,16 @@ use Rattle.std.proofs.lemmas.Bool.{and_from, and_parts, both_ways, cases_Bool, c
 use Rattle.std.proofs.lemmas.Bool.{or_cases, or_left}
 use Rattle.std.proofs.lemmas.List.{length-set}
 use Rattle.std.proofs.lemmas.List.FromFn.{length-map-range_with_len}
+use Rattle.std.proofs.lemmas.Option.{slice_get-get_or}
 use Rattle.net_core.specs.declared.refs.Ref.{Ref}
 use Rattle.net_core.specs.declared.network.Event.{Event}
 use Rattle.net_core.specs.declared.network.Event.TheVariants.{Get, Fire, Put}
 use Rattle.net_core.specs.Machine.{Net, Local, Rule, State, after_event, front, last_of, queue_after}
 use Rattle.net_core.specs.Shape.{is_any_get, is_fire, is_get, is_put, IsWired}
 use Rattle.net_core.proofs.EventCounts.{count_next, count_none, replaced_other, replaced_same}
+use Rattle.net_core.proofs.TwoSteps.{front_append}
 use Rattle.plain_data.proofs.Lists.{slice_get-set_other}
+use Rattle.sanlp.proofs.Lists.{slice_get-map-range_with_len}
 use Rattle.port_items.specs.declared.items.GetItem.{GetItem}
 use Rattle.port_items.specs.Items.{begins_with_fire, fire_if, get_items_before, only_fire, without_fire}
 use Rattle.port_runs.specs.Ports.{EventPlace, PortState, are_dependent, may_come_at, port_step}
@@ -37,7 +41,7 @@ use Rattle.port_design.proofs.Effects.{changed, still}
 use Rattle.port_design.proofs.FirePart.{GetterBehind, after1, all, getter_behind, queue_kept, s2}
 use Rattle.port_design.proofs.Fronts.{get_front, get_in, no_get_behind, seen_by_getter}
 use Rattle.port_design.proofs.Given.{item_is}
-use Rattle.port_design.proofs.Lists.{found, item_of_range, not_found, read_within, same_items, set_here}
+use Rattle.port_design.proofs.Lists.{found, not_found, same_items, set_here}
 use Rattle.port_design.proofs.Next.{behind, come_now, fire_is, get_needs, get_of, next_from, part_each, part_passes, part_run}
 use Rattle.port_design.proofs.Next.{part_stays, test_can, test_coming, test_from, test_kind}
 use Rattle.port_design.proofs.Places.{NextIs, find_next, next_one, one_event}
@@ -127,10 +131,6 @@ module _ {T : Type 0} (rule : Rule T) (t : State T) (p q : ℕ) where
         | inr other ↦ ap (λ (l : Local T). l.kept) (get_elsewhere (Get c slot) other)
       ]
 
-front_of : {T : Type 0} (queue more : List T) → 0 < length queue → front (queue ++ more) ≡ front queue
-front_of [] more some = absurd (omega arith)
-front_of (x ∷ queue) more some = refl
-
 module _ {T : Type 0} (n : Net) (controls : Controls) (rule : Rule T) (wired : IsWired n) (s : PortState T)
     (d : Design T) (stands : StandsFor n controls s d) (apart : HasSlotsApart n) (counted : PortCounted n s) where
   -- the state behind the fires
@@ -163,7 +163,7 @@ module _ {T : Type 0} (n : Net) (controls : Controls) (rule : Rule T) (wired : I
   front2 c valid =
       let more = queue2 c in
       let some = ltb-true _ _ (sym (valid_is c) ∙ valid) in
-      ap front more.1 ∙ front_of (s.run.queue c) more.0 some ∙ ap front (sym (stands.queues c))
+      ap front more.1 ∙ front_append (s.run.queue c) more.0 some ∙ ap front (sym (stands.queues c))
 
   still_valid : (c : ℕ) → is_valid d c ≡ true → nat_lt 0 (length (after2.run.queue c)) ≡ true
   still_valid c valid =
@@ -559,7 +559,7 @@ module _ {T : Type 0} (n : Net) (controls : Controls) (rule : Rule T) (wired : I
       let this = one_event (n.script e.0) e.1 y.event (Get c k) y.is is in
       ap₂ (λ (o : Option (Option T)) (q : List T). (o, q))
       (ap (λ (l : List (Option T)). slice_get l k) (slots_step t e y c k p this (sym reads ∙ sym here))
-      ∙ set_here (t.run.local p).slots k k (front (t.run.queue c)) refl)
+      ∙ set_here (t.run.local p).slots k (front (t.run.queue c)))
       (ap (λ (u : State T). u.queue c) (run_after n rule t e.0 e.1 y)
       ∙ ap (λ f. queue_after (t.run.local e.0).kept f c (t.run.queue c)) this
       ∙ queue_get (t.run.local e.0).kept c k (t.run.queue c)))
@@ -593,13 +593,13 @@ module _ {T : Type 0} (n : Net) (controls : Controls) (rule : Rule T) (wired : I
       (λ k lt.
       let inside : k < many = omega arith in
       let front : 0 + k ≡ k = omega arith in
-      item_of_range (slot_after n controls all d p) many 0 k k inside front
+      slice_get-map-range_with_len (slot_after n controls all d p) 0 many k k inside front
       ∙ by k inside (find (fills n controls all d k) (channels_read n p)) refl)
     where
       old : (k : ℕ) → k < length (d.node p).slots
           → slice_get (after2.run.local p).slots k ≡ Some (get_or (d.node p).slots k None)
       old k inside =
-          ap (λ (l : List (Option T)). slice_get l k) before ∙ read_within (d.node p).slots k None inside
+          ap (λ (l : List (Option T)). slice_get l k) before ∙ slice_get-get_or (d.node p).slots k None inside
 
       by : (k : ℕ) → k < length (d.node p).slots → (o : Option ℕ)
           → find (fills n controls all d k) (channels_read n p) ≡ o

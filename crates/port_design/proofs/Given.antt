@@ -1,5 +1,9 @@
--- A sequencer that gives items stands at the first of them, and gives the others from its next state on; at its end it stands at
--- none.
+-- A sequencer that gives items stands at the first of them, and at its end at none.
+--
+-- That it gives a list says that it stands at the list's first item, and gives the others from its next state on
+-- (`item_first`, `gives_rest`). Where there is no item it says that the sequencer is behind its last instruction,
+-- so at none (`item_none`). Each is one step of the definition, and both together tell the item at which it stands
+-- (`item_is`). How a step finds the next state isn't used.
 use Rattle.std.proofs.Common.{◌≡◌, Some, None, List, [], ◌∷◌, length, slice_get, ap, ◌∙◌, le_refl}
 use Rattle.std.specs.Option.{option_map}
 use Rattle.std.proofs.lemmas.Option.{slice_get_past}

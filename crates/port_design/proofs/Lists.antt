@@ -1,8 +1,17 @@
 -- Lists of channels, and slots by their numbers.
-use Rattle.std.proofs.Common.{◌≡◌, ℕ, zero, suc, ◌+◌, ◌<◌, ◌≤◌, Bool, true, cond, Some, None, List, [], ◌∷◌}
-use Rattle.std.proofs.Common.{length, map, slice_get, slice_set, option_map, get_or, ap, ap₂, sym, ◌∙◌, refl, inl, inr, arith}
-use Rattle.std.specs.Prelude.{find}
+--
+-- The channels of a process are those numbers below the number of channels that pass a test. All of them pass
+-- another test where each number does that passes the first (`all_from`, `all_at`). One that is found passes both,
+-- and where none is found no number does (`found`, `not_found`). All by induction over the numbers that are left,
+-- from any number on. Of slots it is said what is read where one was set, and that two lists with the same items
+-- are one. What a slot holds isn't told here.
+use Rattle.std.proofs.Common.{◌≡◌, ℕ, zero, suc, ◌+◌, ◌<◌, ◌≤◌, Bool, true, cond, Some, None, List, ◌∷◌}
+use Rattle.std.proofs.Common.{length, slice_get, slice_set, option_map, ap, sym, ◌∙◌, refl, inl, inr, arith}
+use Rattle.std.specs.Prelude.{find, unwrap_or}
 use Rattle.std.specs.List.{filter, list_all, range_with_len}
+use Rattle.plain_data.proofs.Lists.{slice_get-set_same}
+use Rattle.std.proofs.lemmas.List.{length-set, same_lists}
+use Rattle.std.proofs.lemmas.Option.{slice_get_cases, slice_get_past, unwrap_or-slice_get}
 use Rattle.std.proofs.lemmas.Bool.{and_from, and_parts, both_ways, cases_Bool, cases_eq, cases_lt, cond-true, cond-false}
 
 -- those of some numbers in a row that pass a test
@@ -102,34 +111,21 @@ module _ (test other : ℕ → Bool) where
 
 -- Slots
 
-pub set_here : {A : Type 0} (xs : List A) (i k : ℕ) (y : A) → k ≡ i
-    → slice_get (slice_set xs i y) k ≡ option_map (λ x. y) (slice_get xs k)
-set_here [] zero k y same = refl
-set_here [] (suc i) k y same = refl
-set_here (x ∷ xs) zero zero y same = refl
-set_here (x ∷ xs) zero (suc k) y same = absurd (omega arith)
-set_here (x ∷ xs) (suc i) zero y same = absurd (omega arith)
-set_here (x ∷ xs) (suc i) (suc k) y same = set_here xs i k y (omega arith)
+-- what is read where an item was set, if there is a place
+pub set_here : {A : Type 0} (xs : List A) (k : ℕ) (y : A)
+    → slice_get (slice_set xs k y) k ≡ option_map (λ x. y) (slice_get xs k)
+set_here xs k y =
+    elim (slice_get_cases xs k).1 [
+      | inl x ↦ slice_get-set_same xs k y x.1 ∙ sym (ap (option_map (λ z. y)) x.2)
+      | inr past ↦
+          slice_get_past (slice_set xs k y) k (omega (arith, past.0, length-set xs k y))
+          ∙ sym (ap (option_map (λ z. y)) past.1)
+    ]
 
 -- a list is given by its length and its items
 pub same_items : {A : Type 0} (xs ys : List A) → length xs ≡ length ys
     → ((k : ℕ) → k < length xs → slice_get xs k ≡ slice_get ys k) → xs ≡ ys
-same_items [] [] long each = refl
-same_items [] (y ∷ ys) long each = absurd (omega arith)
-same_items (x ∷ xs) [] long each = absurd (omega arith)
-same_items (x ∷ xs) (y ∷ ys) long each =
-    let both : Some x ≡ Some y = each 0 (omega arith) in
-    let same : x ≡ y = cc in
-    ap₂ (λ z zs. z ∷ zs) same (same_items xs ys (omega arith) (λ k lt. each (suc k) (omega arith)))
-
-pub item_of_range : {A : Type 0} (f : ℕ → A) (m a k j : ℕ) → k < m → a + k ≡ j
-    → slice_get (map f (range_with_len a m)) k ≡ Some (f j)
-item_of_range f zero a k j lt sum = absurd (omega arith)
-item_of_range f (suc m) a zero j lt sum = let same : a ≡ j = omega arith in ap (λ i. Some (f i)) same
-item_of_range f (suc m) a (suc k) j lt sum = item_of_range f m (a + 1) k j (omega arith) (omega arith)
-
-pub read_within : {A : Type 0} (xs : List A) (k : ℕ) (other : A) → k < length xs
-    → slice_get xs k ≡ Some (get_or xs k other)
-read_within [] k other lt = absurd (omega arith)
-read_within (x ∷ xs) zero other lt = refl
-read_within (x ∷ xs) (suc k) other lt = read_within xs k other (omega arith)
+same_items xs ys long each =
+    same_lists xs ys long
+    (λ k d lt.
+    sym (unwrap_or-slice_get xs k d) ∙ ap (λ o. unwrap_or o d) (each k lt) ∙ unwrap_or-slice_get ys k d)

@@ -1,9 +1,9 @@
 -- The events that come in a part of a clock, as the ports see them: each is the next one at its port.
 --
--- An event that may come is due: all before it on which it depends have come. A Put depends on the Puts of its channel and on the
--- Fires, a Get on those of its channel and on the Fires, and a Fire on all. So it is next among these (`next_from`), and as only one
--- is next, of each kind at most one comes in a part; the place of a port is then behind it (`part_passes`), or where it was
--- (`part_stays`).
+-- An event that may come is due: all before it on which it depends have come. A Put depends on the Puts of its
+-- channel and on the Fires, a Get on those of its channel and on the Fires, and a Fire on all. So it is next among
+-- these (`next_from`), and as only one is next, of each kind at most one comes in a part; the place of a port is
+-- then behind it (`part_passes`), or where it was (`part_stays`).
 use Rattle.std.proofs.Common.{◌≡◌, ℕ, suc, Bool, true, false, ◌&&◌, eqb, Some, List, length, slice_get}
 use Rattle.std.proofs.Common.{ap, sym, ◌∙◌, refl, inl, inr, arith, eq-eqb, eqb-true}
 use Rattle.std.specs.Option.{option_map_or}
@@ -63,11 +63,6 @@ put_of c (Get d slot) on any = absurd (cc)
 put_of c (Fire refs) on any = absurd (cc)
 put_of c (Put d) on any = elim (or_cases (eqb c d) false on) [ inl here ↦ here | inr wrong ↦ absurd (cc) ]
 
-pub put_is : (c : ℕ) (e : Event) → is_put c e ≡ true → e ≡ Put c
-put_is c (Get d slot) t = absurd (cc)
-put_is c (Fire refs) t = absurd (cc)
-put_is c (Put d) t = ap Put (sym (eqb-true c d t))
-
 pub get_of : (c : ℕ) (e : Event) → is_get_or_fire c e ≡ true → is_any_get e ≡ true
     → (slot : ℕ) × (e ≡ Get c slot)
 get_of c (Get d slot) on any =
@@ -83,9 +78,6 @@ pub fire_is : (e : Event) → is_fire e ≡ true → (refs : List Ref) × (e ≡
 fire_is (Get d slot) t = absurd (cc)
 fire_is (Fire refs) t = (refs, refl)
 fire_is (Put d) t = absurd (cc)
-
-pub fire_at_getter : (c : ℕ) (e : Event) → is_fire e ≡ true → is_get_or_fire c e ≡ true
-fire_at_getter c e t = or_right (is_get c e) (is_fire e) t
 
 pub fire_at_putter : (c : ℕ) (e : Event) → is_fire e ≡ true → is_put_or_fire c e ≡ true
 fire_at_putter c e t = or_right (is_put c e) (is_fire e) t

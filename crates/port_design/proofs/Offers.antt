@@ -1,13 +1,15 @@
 -- What a Put port offers is there.
 --
--- Where a Put port waits the next event that it sees is a Put, before which its process has a Fire. All Fires before it have come,
--- so the process has kept a value, and the last of these is what it fired last.
-use Rattle.std.proofs.Common.{◌≡◌, ℕ, suc, ◌<◌, ◌≤◌, true, false, Some, List, [], ◌∷◌, length, drop}
-use Rattle.std.proofs.Common.{ap, sym, ◌∙◌, refl, inl, inr, arith}
+-- Where a Put port waits the next event that it sees is a Put, before which its process has a Fire. All Fires
+-- before it have come, so the process has kept a value, and the last of these is what it fired last.
+use Rattle.std.proofs.Common.{◌≡◌, ℕ, suc, ◌<◌, ◌≤◌, true, false, Some, length, drop}
+use Rattle.std.proofs.Common.{ap, sym, ◌∙◌, inl, inr, arith}
 use Rattle.std.proofs.lemmas.Bool.{or_cases}
 use Rattle.std.proofs.lemmas.Option.{slice_get_within}
-use Rattle.net_core.specs.Machine.{Net, front, last_of}
+use Rattle.net_core.specs.Machine.{Net}
 use Rattle.net_core.specs.Shape.{is_fire, is_put, IsWired}
+use Rattle.net_core.proofs.BlockCounts.{put_is}
+use Rattle.design_clocks.proofs.Clocked.{some_last}
 use Rattle.port_items.specs.Items.{begins_with_put, put_items}
 use Rattle.port_runs.specs.Ports.{PortState}
 use Rattle.port_runs.proofs.ComeCounts.{count_least}
@@ -16,13 +18,8 @@ use Rattle.port_design.specs.Registers.{Controls, Design, token_for}
 use Rattle.port_design.specs.Clocked.{StandsFor, is_put_or_fire, puts_from}
 use Rattle.port_design.proofs.Ahead.{at_next, at_none, puts_skip}
 use Rattle.port_design.proofs.Fronts.{fire_front}
-use Rattle.port_design.proofs.Next.{fire_at_putter, put_is}
+use Rattle.port_design.proofs.Next.{fire_at_putter}
 use Rattle.port_design.proofs.Places.{find_next}
-
-some_last : {T : Type 0} (kept : List T) → 0 < length kept → (x : T) × (front (last_of kept) ≡ Some x)
-some_last [] some = absurd (omega arith)
-some_last (x ∷ []) some = (x, refl)
-some_last (x ∷ (y ∷ kept)) some = some_last (y ∷ kept) (omega arith)
 
 pub offered_is_there : {T : Type 0} (n : Net) (controls : Controls) → IsWired n → (s : PortState T) (d : Design T)
     → StandsFor n controls s d → PortCounted n s → (c : ℕ) → (d.putter c).waits ≡ true

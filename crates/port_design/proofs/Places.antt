@@ -1,8 +1,9 @@
 -- Where a register is in a script, and which event is next for it.
 --
--- Of the events of a kind just those before a place have come. So the first of that kind from the place on is the next one to come
--- (`NextIs`): all of its kind before it have come, and it hasn't. There is one, or none is left (`find_next`), and there is only one
--- (`next_one`). Once it has come, and no other of the kind with it, the place is behind it (`passed_on`).
+-- Of the events of a kind just those before a place have come. So the first of that kind from the place on is the
+-- next one to come (`NextIs`): all of its kind before it have come, and it hasn't. There is one, or none is left
+-- (`find_next`), and there is only one (`next_one`). Once it has come, and no other of the kind with it, the place
+-- is behind it (`passed_on`).
 use Rattle.std.proofs.Common.{◌≡◌, ◌⊎◌, ℕ, zero, suc, ◌+◌, ◌-◌, ◌<◌, ◌≤◌, Bool, true, false, Option, Some, None, List}
 use Rattle.std.proofs.Common.{length, slice_get, ap, sym, ◌∙◌, refl, inl, inr, arith}
 use Rattle.std.proofs.lemmas.Bool.{both_ways, cases_Bool, cases_eq, cases_lt, false_from_ne_true}

@@ -1,4 +1,9 @@
--- A ring beside a channel of the design holds its tokens: at each edge the two are asked alike and are offered the same token.
+-- A ring beside a channel of the design holds its tokens.
+--
+-- The invariant is `Holds`: the ring has as many tokens as the channel, and they lie in it in order from the
+-- oldest one on. Behind a reset both are empty. An edge keeps it (`edge_holds`), since at each edge the two are
+-- asked alike and are offered the same token, which is there where one is offered. By induction over the edges. A
+-- channel without a place has no ring.
 use Rattle.std.proofs.Common.{◌≡◌, ℕ, zero, suc, ◌<◌, true, Some}
 use Rattle.net_core.specs.Machine.{Net, Rule}
 use Rattle.design_clocks.specs.Rings.{Holds}

@@ -1,9 +1,9 @@
 -- The Puts of an edge are those of the clock.
 --
--- A Put comes in the clock exactly where its port waits and its channel is ready: then it is the next that the port sees, and else
--- no Put of this channel comes. So behind the Puts each Put port is past its Put, or where it was, and whether it lets its process
--- fire is told by what is next then (`putter_behind`). A queue has one token more where its port puts. Slots and what processes have
--- kept stay as they are.
+-- A Put comes in the clock exactly where its port waits and its channel is ready: then it is the next that the
+-- port sees, and else no Put of this channel comes. So behind the Puts each Put port is past its Put, or where it
+-- was, and whether it lets its process fire is told by what is next then (`putter_behind`). A queue has one token
+-- more where its port puts. Slots and what processes have kept stay as they are.
 use Rattle.std.proofs.Common.{◌≡◌, ℕ, suc, Bool, true, false, not, ◌&&◌, ◌||◌, cond, nat_lt, Option, Some, List}
 use Rattle.std.proofs.Common.{◌++◌, length, drop, slice_get, ap, ap₂, sym, subst, ◌∙◌, refl, inl, inr}
 use Rattle.std.proofs.lemmas.Bool.{and_from, and_parts, both_ways, cases_Bool, cases_eq, false_from_ne_true, or_cases, or_left, or_right}
@@ -11,6 +11,7 @@ use Rattle.net_core.specs.declared.network.Event.{Event}
 use Rattle.net_core.specs.declared.network.Event.TheVariants.{Get, Fire, Put}
 use Rattle.net_core.specs.Machine.{Net, Local, Rule, State, after_event, can_come, last_of, queue_after}
 use Rattle.net_core.specs.Shape.{is_fire, is_get, is_put, IsWired}
+use Rattle.net_core.proofs.BlockCounts.{put_is}
 use Rattle.net_core.proofs.EventCounts.{replaced_other, replaced_same}
 use Rattle.net_core.proofs.TwoSteps.{put_writer}
 use Rattle.repeat_sequencer.specs.Steps.{item_at}
@@ -27,7 +28,7 @@ use Rattle.port_design.proofs.Effects.{changed, still}
 use Rattle.port_design.proofs.Fronts.{fire_front, no_fire_at_put, put_front, same_without_put}
 use Rattle.port_design.proofs.Given.{item_is}
 use Rattle.port_design.proofs.Next.{come_now, next_from, part_each, part_passes, part_run, part_stays}
-use Rattle.port_design.proofs.Next.{put_any, put_is, put_needs, put_needs_only, put_of, test_can, test_coming, test_from, test_kind}
+use Rattle.port_design.proofs.Next.{put_any, put_needs, put_needs_only, put_of, test_can, test_coming, test_from, test_kind}
 use Rattle.port_design.proofs.Places.{NextIs, find_next, next_one, one_event}
 
 -- What a Put changes

@@ -1,5 +1,5 @@
 -- The design beside the clocked run of the ports.
-use Rattle.std.specs.Prelude.{◌≡◌, ◌<◌, ◌≤◌, ◌↔◌, ◌||◌, ℕ, ◌-◌, ℤ, Bool, true, false, Some, List, length, drop, slice_get}
+use Rattle.std.specs.Prelude.{◌≡◌, ◌<◌, ◌≤◌, ◌↔◌, ◌||◌, ℕ, ◌-◌, ℤ, Bool, true, false, Some, None, List, length, drop, slice_get}
 use Rattle.sanlp.specs.declared.nest.Nest.{Nest}
 use Rattle.sanlp.specs.WellFormed.{output_numbers}
 use Rattle.net_core.specs.declared.refs.Ref.{Ref}
@@ -16,7 +16,7 @@ use Rattle.port_items.specs.declared.items.PutItem.{PutItem}
 use Rattle.port_items.specs.Items.{begins_with_fire, begins_with_put, fire_if, fire_items, get_items_before, port_gets, put_items, without_fire, without_put}
 use Rattle.port_runs.specs.Ports.{PortState}
 use Rattle.port_clocks.specs.PortClocks.{after_port_clocks, port_clocks}
-use Rattle.port_design.specs.Registers.{Controls, Design, Node, Port, after_edges, begins_behind_fire, fires, fires_of, gets, no_stalls, puts, refs_fired, token_for}
+use Rattle.port_design.specs.Registers.{Controls, Design, Node, Port, after_edges, begins_behind_fire, fires, fires_of, get_at, gets, no_stalls, put_at, puts, refs_at, refs_fired, token_for}
 
 -- a sequencer gives these items from a state on, one at each step, and then stands at its end
 abbrev pub GivesFrom : {T : Type 0} → Sequencer T → sequencer.State → List T → Type 0
@@ -124,11 +124,20 @@ pub record IsAtRest {T : Type 0} (n : Net) (controls : Controls) (d : Design T) 
   pub puts : (c : ℕ) → puts n d c ≡ false
   pub gets : (c : ℕ) → gets n controls (λ q. true) d c ≡ false
 
+-- the design is done: each sequencer stands at its end, and no value waits for room
+pub record IsDone {T : Type 0} (controls : Controls) (d : Design T) : Type 0 where
+  pub fires : (p : ℕ) → refs_at controls d p ≡ None
+  pub gets : (c : ℕ) → get_at controls d c ≡ None
+  pub puts : (c : ℕ) → put_at controls d c ≡ None
+  pub clear : (c : ℕ) → (d.putter c).waits ≡ false
+
 -- The design takes as many clocks as the clocked run of the ports, where no process is held back.
 pub record TakesPortClocks {T : Type 0} (n : Net) (controls : Controls) (rule : Rule T)
     : Type 0 where
   -- something moves at each edge before so many, and nothing at a later one
   pub rests : (k : ℕ) → (port_clocks n ≤ k) ↔ IsAtRest n controls (after_edges n controls rule k)
+  -- exactly from then on it is done
+  pub done : (k : ℕ) → (port_clocks n ≤ k) ↔ IsDone controls (after_edges n controls rule k)
   -- at no time does a channel hold more tokens than its capacity
   pub fits : (k c : ℕ) → length ((after_edges n controls rule k).fifo c) ≤ n.capacity c
 

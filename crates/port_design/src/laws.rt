@@ -27,8 +27,9 @@ pub fn port_design_runs_by_clock<T: Copy>()
         → GiveItems n controls → RunsByPortClock n controls rule }
 {}
 
-/// Where every order of events ends all, the design takes exactly as many clocks as the clocked run of the ports, and no channel
-/// ever holds more tokens than its capacity.
+/// Where every order of events ends all, the design takes exactly as many clocks as the clocked run of the ports: something moves at
+/// each edge before so many, and from then on nothing does and each sequencer is at its end. No channel ever holds more tokens than
+/// its capacity.
 pub fn port_design_takes_clocks<T: Copy>()
     ensures { (n : Net) (controls : Controls) (rule : Rule T) → IsWired n → HasSlotsApart n
         → GiveItems n controls → EndsAlways n rule → TakesPortClocks n controls rule }

@@ -1,7 +1,7 @@
 -- There are no more items than events.
 --
--- An event adds one item or none: a Get or a Fire that goes with the item next to it adds none. A port that begins behind a Fire
--- has one item less in front and one more at the end, so no more either.
+-- An event adds one item or none: a Get or a Fire that goes with the item next to it adds none. A port that begins
+-- behind a Fire has one item less in front and one more at the end, so no more either.
 use Rattle.std.proofs.Common.{◌≡◌, ℕ, ◌+◌, ◌≤◌, Bool, true, false, cond, eqb, is_none, List, [], ◌∷◌}
 use Rattle.std.proofs.Common.{length, refl, inl, inr, arith}
 use Rattle.std.proofs.lemmas.Bool.{cases_Bool}

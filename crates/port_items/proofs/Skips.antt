@@ -1,7 +1,8 @@
 -- A walk that is to skip the first Fire of a script, before which there is no Get.
 --
--- As long as it is yet to be skipped no item is made and no Get waits, and what is left begins with that Fire: any other event is
--- none of the port's. Once it is skipped, what is left is owed as it is. At the end it was skipped, since nothing is left.
+-- As long as it is yet to be skipped no item is made and no Get waits, and what is left begins with that Fire: any
+-- other event is none of the port's. Once it is skipped, what is left is owed as it is. At the end it was skipped,
+-- since nothing is left.
 use Rattle.std.proofs.Common.{◌≡◌, ℕ, ◌<◌, Bool, true, false, not, cond, eqb, Option, Some, None, List, [], ◌∷◌, ◌++◌}
 use Rattle.std.proofs.Common.{length, ap, sym, ◌∙◌, refl, inl, inr, arith}
 use Rattle.std.proofs.lemmas.Bool.{cases_Bool}

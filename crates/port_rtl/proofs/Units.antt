@@ -1,5 +1,9 @@
--- What the hardware of processes has besides the sequencers of their ports is hardware of the same processes: place by place, since that
--- of one says so. It says nothing of the sequencer of the script, which stands in no text here.
+-- What the hardware of processes has besides the sequencers of their ports is hardware of the same processes.
+--
+-- What a unit of a process is says of its inner unit that it is one of the same process (`unit_is`). So of
+-- automata and units that go together the inner units go with the automata too, by induction over both lists,
+-- which are equally long. It says nothing of the sequencers of the ports. That of the script, which a unit has
+-- too, stands in no text here.
 use Rattle.std.proofs.Common.{List, [], ◌∷◌}
 use Rattle.std.specs.List.{AllZip}
 use Rattle.node_automata.specs.declared.node.NodeAuto.{NodeAuto}

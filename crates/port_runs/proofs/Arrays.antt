@@ -1,7 +1,7 @@
 -- In a sound network the sinks have kept the arrays after the nest, whatever the order of the ports.
 --
--- Where all events have come, each process has kept the values of its fires. A run of the scripts that ends all leaves the same
--- (net_core), and of that the arrays are known.
+-- Where all events have come, each process has kept the values of its fires. A run of the scripts that ends all
+-- leaves the same (net_core), and of that the arrays are known.
 use Rattle.std.proofs.Common.{◌≡◌, ℕ, ◌-◌, ℤ, List, [], length, ap, sym, ◌∙◌}
 use mathlib.Core.Path.{fun_ext}
 use Rattle.sanlp.specs.declared.nest.Inputs.{Inputs}

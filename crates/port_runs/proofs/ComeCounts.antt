@@ -1,7 +1,7 @@
 -- Counts of the events of a script that have come.
 --
--- Where those of a kind before a place have all come and none from it on, there are as many as the script has before it
--- (`count_here`). One event more that comes is counted once (`count_place`).
+-- Where those of a kind before a place have all come and none from it on, there are as many as the script has
+-- before it (`count_here`). One event more that comes is counted once (`count_place`).
 use Rattle.std.proofs.Common.{◌≡◌, ℕ, zero, suc, ◌+◌, ◌<◌, ◌≤◌, Bool, true, false, ◌&&◌, cond, Option, Some, None, List}
 use Rattle.std.proofs.Common.{length, take, slice_get, count_by, ap, ap₂, ◌∙◌, refl, inl, inr, arith}
 use Rattle.std.specs.Option.{option_map_or}

@@ -1,8 +1,9 @@
 -- An event is due where all before it on which it depends have come, and a place that has come stays so.
 --
--- Both ways go by induction on the place up to which the script is looked at: one place more is asked for what has come there, or for no
--- dependence. A step of the ports sets one place, so what has come only grows, and what was due stays due. It isn't said here that an
--- event that is due may come: its channel has to let it, which `PortEnds` takes from a run of the scripts.
+-- Both ways go by induction on the place up to which the script is looked at: one place more is asked for what has
+-- come there, or for no dependence. A step of the ports sets one place, so what has come only grows, and what was
+-- due stays due. It isn't said here that an event that is due may come: its channel has to let it, which
+-- `PortEnds` takes from a run of the scripts.
 use Rattle.std.proofs.Common.{◌≡◌, ℕ, zero, suc, ◌<◌, Bool, true, false, not, ◌||◌, Option, Some, None, List, slice_get}
 use Rattle.std.proofs.Common.{ap, sym, ◌∙◌, refl, inl, inr, arith}
 use Rattle.std.specs.Option.{option_map_or}

@@ -1,8 +1,9 @@
 -- Along a run of the ports each queue holds as many tokens as were put and not got.
 --
--- The invariant is `PortCounted`: dependent events have come in order, each queue's length is its Puts less its Gets, and each
--- process has kept one value for each of its fires. A Get takes one of at least one, and a Put appends exactly one value, since a
--- Put comes behind a fire. So which events may come is a matter of those that have come, whatever fires give (`same_may`).
+-- The invariant is `PortCounted`: dependent events have come in order, each queue's length is its Puts less its
+-- Gets, and each process has kept one value for each of its fires. A Get takes one of at least one, and a Put
+-- appends exactly one value, since a Put comes behind a fire. So which events may come is a matter of those that
+-- have come, whatever fires give (`same_may`).
 use Rattle.std.proofs.Common.{◌≡◌, ℕ, ◌+◌, ◌<◌, ◌≤◌, Bool, true, not, ◌&&◌, cond, eqb, Option, Some, None}
 use Rattle.std.proofs.Common.{List, [], ◌∷◌, length, ap, sym, ◌∙◌, refl, inl, inr}
 use Rattle.std.proofs.Common.{arith, length-append, ltb-true, eqb-true, nat_lt}

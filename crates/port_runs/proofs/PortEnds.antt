@@ -1,10 +1,11 @@
 -- Every run of the ports can go on until all events have come, where one run of the scripts ends all.
 --
--- The full run of the scripts is gone through as a list of events, beside a state of the ports in which all before the present one
--- have come (`finish`). If the present one has come too, it is passed over. If not, its process's earlier events have come, so it
--- is due; of its own port just those before it have come, and of the other end at least those before it; so its channel has the
--- token or the room that it had in the full run, and it may come (`may_from_cut`). No order of the ports is fixed beforehand: a
--- fixed one might stick. Nothing is said of how soon an event comes.
+-- The full run of the scripts is gone through as a list of events, beside a state of the ports in which all before
+-- the present one have come (`finish`). If the present one has come too, it is passed over. If not, its process's
+-- earlier events have come, so it is due; of its own port just those before it have come, and of the other end at
+-- least those before it; so its channel has the token or the room that it had in the full run, and it may come
+-- (`may_from_cut`). No order of the ports is fixed beforehand: a fixed one might stick. Nothing is said of how
+-- soon an event comes.
 use Rattle.std.proofs.Common.{◌≡◌, ◌⊎◌, ℕ, ◌+◌, ◌<◌, ◌≤◌, Bool, true, false, Option, Some, None, List, [], ◌∷◌}
 use Rattle.std.proofs.Common.{length, take, slice_get, count_by, ap, sym, subst, ◌∙◌, refl, inl, inr, arith, ltb-true}
 use Rattle.std.proofs.Common.{eq-eqb, lt-ltb}

@@ -1,7 +1,9 @@
--- One event of a run of the ports: what it needs, and that the events of one port and the fires come in the script's order.
+-- One event of a run of the ports: what it needs, and that the events of one port and the fires come in the
+-- script's order.
 --
--- The invariant is `IsOrdered`: with an event all earlier ones on which it depends have come. Each event that may come keeps it,
--- since it is due. So at an event that may come, of the kinds on which it depends just those before it have come (`made_here`).
+-- The invariant is `IsOrdered`: with an event all earlier ones on which it depends have come. Each event that may
+-- come keeps it, since it is due. So at an event that may come, of the kinds on which it depends just those before
+-- it have come (`made_here`).
 use Rattle.std.proofs.Common.{◌≡◌, ℕ, ◌+◌, ◌<◌, ◌≤◌, Bool, true, false, not, ◌&&◌, cond, Option, Some, None}
 use Rattle.std.proofs.Common.{length, take, slice_get, count_by, ap, sym, subst, ◌∙◌, refl, inl, inr, arith}
 use Rattle.std.proofs.lemmas.Bool.{and_from, and_parts, both_ways, cases_Bool, cases_eq, cases_lt, false_from_ne_true}

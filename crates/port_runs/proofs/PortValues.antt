@@ -1,10 +1,11 @@
 -- Whatever the order of the ports, each place holds the value of what it names.
 --
--- Gets and Puts of one channel, Gets of one slot and fires come in the script's order. So the events of a channel that have come are
--- the first of it, the slots name what they name in the script where just these Gets stand (`come_gets`), and at a fire that may
--- come they name what the script says there: all Gets before it have come and none behind it (`operands_here`). The invariant is
--- `HoldsSlotNames`: each slot, each kept value and each queue is the list of the values of the tags that it names. A Get keeps it
--- since two Gets that fill different slots may change places (`set_swap`). That events come at all isn't a matter of this file.
+-- Gets and Puts of one channel, Gets of one slot and fires come in the script's order. So the events of a channel
+-- that have come are the first of it, the slots name what they name in the script where just these Gets stand
+-- (`come_gets`), and at a fire that may come they name what the script says there: all Gets before it have come
+-- and none behind it (`operands_here`). The invariant is `HoldsSlotNames`: each slot, each kept value and each
+-- queue is the list of the values of the tags that it names. A Get keeps it since two Gets that fill different
+-- slots may change places (`set_swap`). That events come at all isn't a matter of this file.
 use Rattle.std.proofs.Common.{◌≡◌, ℕ, zero, suc, pred, ◌+◌, ◌<◌, ◌≤◌, Bool, true, false, cond, eqb, Option, Some, None, List}
 use Rattle.std.proofs.Common.{[], ◌∷◌, ◌++◌, length, map, take, drop, slice_get, slice_set, replicate, count_by, option_map}
 use Rattle.std.proofs.Common.{ap, ap₂, sym, subst, ◌∙◌, refl, inl, inr, arith, ltb-true, eq-eqb, eqb-true}
@@ -19,7 +20,7 @@ use Rattle.net_core.specs.Machine.{Net, Local, Rule, State, can_come, front, las
 use Rattle.net_core.specs.Names.{GivesValues, fired, latest_gets, slot_names, tag, token_at, tokens, tokens_before, with_get}
 use Rattle.net_core.specs.Names.{with_token}
 use Rattle.net_core.specs.Shape.{is_fire, is_get, is_put, IsWired, fires}
-use Rattle.net_core.proofs.PlaceValues.{last_fired, token_full, tokens_length}
+use Rattle.net_core.proofs.PlaceValues.{front_map_drop, last_fired, token_full, tokens_length}
 use Rattle.net_core.proofs.Positions.{put_fired}
 use Rattle.plain_data.proofs.Lists.{slice_get_push_at, take-suc_some}
 use Rattle.port_runs.specs.Ports.{AllHaveCome, IsPortRun, EventPlace, PortState, port_after}
@@ -48,13 +49,6 @@ get_take xs zero i lt = absurd (omega arith)
 get_take [] (suc k) i lt = refl
 get_take (x ∷ xs) (suc k) zero lt = refl
 get_take (x ∷ xs) (suc k) (suc i) lt = get_take xs k i (omega arith)
-
-front_map_drop : {X T : Type 0} (v : X → T) (g : ℕ) (xs : List X)
-    → front (map v (drop g xs)) ≡ option_map v (slice_get xs g)
-front_map_drop v zero [] = refl
-front_map_drop v (suc g) [] = refl
-front_map_drop v zero (x ∷ xs) = refl
-front_map_drop v (suc g) (x ∷ xs) = front_map_drop v g xs
 
 -- What the slots name
 

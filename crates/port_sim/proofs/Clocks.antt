@@ -1,4 +1,9 @@
 -- A clock of what the code holds: its three parts one after the other.
+--
+-- What `IsAt` says holds between two clocks, and between the parts of one. Each part keeps it, so behind the Puts,
+-- the Fires and the Gets the code stands at the state after all events of the clock, and it has found some exactly
+-- where the clock has some (`clock_done`). A clock with events is before the last one (`clock_before`), so the
+-- code counts no clock too many. Which events a part has isn't a matter of this file.
 use Rattle.std.proofs.Common.{◌≡◌, ◌<◌, ◌≤◌, ℕ, Bool, true, false, not, ◌||◌, length, ap, sym}
 use Rattle.std.proofs.Common.{subst, ◌∙◌, inl, inr, arith}
 use Rattle.std.specs.List.{range_with_len}

@@ -1,4 +1,10 @@
 -- Whether an event of a window is due, looked at from the event back to the window's beginning.
+--
+-- The invariant is that the event is due at its place where it is due at the place up to which was looked. An
+-- event between that has come, or on which it doesn't depend, is passed (`due_passed`): no more is asked of it. At
+-- the window's beginning nothing is left to ask, since all before it have come (`due_start`). One that hasn't come
+-- and on which the event depends decides that it isn't due (`due_stop`). Whether a channel lets it come isn't
+-- asked.
 use Rattle.std.proofs.Common.{◌≡◌, ◌⊎◌, ℕ, suc, ◌+◌, ◌<◌, Bool, true, false, not, ◌&&◌, ◌||◌, Some, List, slice_get}
 use Rattle.std.proofs.Common.{ap, ◌∙◌, inl, inr, arith}
 use Rattle.std.specs.Option.{option_map_or}

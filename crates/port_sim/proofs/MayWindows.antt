@@ -1,4 +1,10 @@
 -- Whether an event of a window may come, and whether it comes in a part of a clock.
+--
+-- A window tells of each of its places the script's event and whether it has come (`window_here`). So whether an
+-- event may come is told by the tests that the code makes, in its order: one that isn't due may not come
+-- (`may_not_yet`), and of one that hasn't come and is due the channel decides (`may_if_can`). In a part of a clock
+-- its kind and its channel at the clock's beginning are asked before. Each is one step of the definitions; of
+-- places outside the window nothing is said.
 use Rattle.std.proofs.Common.{◌≡◌, ℕ, ◌+◌, Bool, true, false, not, ◌&&◌, Some, slice_get, ap, ◌∙◌}
 use Rattle.std.specs.Option.{option_map_or}
 use Rattle.std.proofs.lemmas.Bool.{and_left, and_right, not_from_false, not_from_true}

@@ -1,6 +1,9 @@
 -- The events of a part of a clock, listed process by process: of each process those of its window that come.
 --
--- An event before a window has come, and none behind it is due. So of all places of a script just those of the window are looked at.
+-- The invariant of the listing is that those up to a place are listed; the next place adds its event or nothing
+-- (`first_more`), and the next process those of its script (`all_more`). An event before a window has come, and
+-- none behind it is due, so neither comes (`none_before`, `none_behind`): of all places of a script just those of
+-- the window are looked at. That the listed events can come one after the other isn't said here.
 use Rattle.std.proofs.Common.{◌≡◌, ℕ, zero, suc, ◌+◌, ◌-◌, ◌<◌, ◌≤◌, Bool, true, false, not, ◌&&◌, cond, Option, Some, None, List}
 use Rattle.std.proofs.Common.{[], ◌∷◌, ◌++◌, length, map, slice_get, ap, sym, ◌∙◌, refl, arith, add-zero, zero-add}
 use Rattle.std.proofs.Common.{append-nil}

@@ -1,8 +1,9 @@
 -- What the code holds after an event that may come.
 --
--- A run leads to the state, so its queues are counted. An event that may come is in its process's window: what is before has come,
--- and none behind is due. Its process's window goes on (WindowEvents), the others stay, and its channel has a token more or less.
--- Numbers fit, since no channel has had more tokens than its writer's script has events before a Put that hasn't come.
+-- A run leads to the state, so its queues are counted. An event that may come is in its process's window: what is
+-- before has come, and none behind is due. Its process's window goes on (WindowEvents), the others stay, and its
+-- channel has a token more or less. Numbers fit, since no channel has had more tokens than its writer's script has
+-- events before a Put that hasn't come.
 use Rattle.std.proofs.Common.{◌≡◌, ℕ, ◌+◌, ◌-◌, ◌^◌, ◌<◌, ◌≤◌, true, cond, eqb, Some}
 use Rattle.std.proofs.Common.{List, [], ◌∷◌, ◌++◌, length, take, slice_get, slice_set, get_or, count_by, ap, sym}
 use Rattle.std.proofs.Common.{subst, ◌∙◌, refl, inl, inr, arith, ltb-true, eq-eqb, ne_eqb, length-set}
@@ -29,8 +30,8 @@ use Rattle.port_sim.specs.declared.window.Window.{Window}
 use Rattle.port_sim.specs.Windows.{CanCount, HasChannel, IsAt, IsWindow, queued_after}
 use Rattle.port_clocks.proofs.PortParts.{port_after_append, port_run_append}
 use Rattle.port_sim.proofs.Rounds.{not_behind}
-use Rattle.port_sim.proofs.WindowEvents.{get_set_here, get_set_there}
-use Rattle.plain_data.proofs.Lists.{slice_get-some}
+use Rattle.port_sim.proofs.WindowEvents.{get_set_here}
+use Rattle.plain_data.proofs.Lists.{slice_get-set_other, slice_get-some}
 
 module _ (n : Net) (s : PortState Tag) (ports : Ports) (at : IsAt n s ports) where
   pub counted : PortCounted n s
@@ -143,7 +144,7 @@ module _ (n : Net) (s : PortState Tag) (ports : Ports) (at : IsAt n s ports) whe
               ap (slice_get (slice_set ports.queued.items d x)) (sym same) ∙ y.1 in
               y.1 ∙ ap Some (get_set_here ports.queued.items d x y.0 read ∙ here same)
           | inr d' ↦
-              get_set_there ports.queued.items d ch x d' ∙ at.queues.lengths ch there ∙ ap Some (else d')
+              slice_get-set_other ports.queued.items d ch x d' ∙ at.queues.lengths ch there ∙ ap Some (else d')
         ]
 
     lengths_next : (e : Event) (ch : ℕ) → ch < n.channels
@@ -195,7 +196,7 @@ module _ (n : Net) (s : PortState Tag) (ports : Ports) (at : IsAt n s ports) whe
                 (subst (λ f. IsWindow (n.script p) f w') (sym come) window))
             | inr d ↦
                 subst (λ f. IsWindow (n.script q) f u) (sym (place_apart s.has_come p k q d))
-                (at.windows q u (sym (get_set_there ports.windows.items p q w' d) ∙ set_read))
+                (at.windows q u (sym (slice_get-set_other ports.windows.items p q w' d) ∙ set_read))
           ]
 
       pub at_next : IsAt n next ports'

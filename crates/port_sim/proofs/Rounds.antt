@@ -1,4 +1,10 @@
 -- The events of a script up to its first fire, and what a window of a script tells of it.
+--
+-- A round's events are the script's, a fire among them is the last one, and a round that isn't the whole script
+-- ends in a fire: each by induction over the script. A window has the round of what is left behind its beginning,
+-- so its events are the script's at their places (`event_here`). Every event behind it depends on the fire at its
+-- end, which hasn't come, so none of them is due (`not_behind`). Which events of the window itself are due isn't
+-- told here.
 use Rattle.std.proofs.Common.{◌≡◌, ℕ, zero, suc, ◌+◌, ◌<◌, ◌≤◌, Bool, true, false, Some, List, [], ◌∷◌}
 use Rattle.std.proofs.Common.{cond, length, drop, slice_get, option_map, ap, sym, ◌∙◌, refl, arith, suc-add}
 use Rattle.std.proofs.Common.{zero-add, length-drop}

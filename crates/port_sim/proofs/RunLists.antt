@@ -1,4 +1,9 @@
 -- A list of events that is gone through one by one, and whether a clock has any.
+--
+-- The first so many events of a list lead to a state (`after_first`). Where the list is a run of the ports the
+-- next event may come in that state (`may_next`), and leads to the state for one more (`after_more`): both by
+-- induction over the list, from any state on. A clock has events where one of its three parts has (`any_of`). That
+-- the list is a run is a premise.
 use Rattle.std.proofs.Common.{◌≡◌, ℕ, zero, suc, ◌+◌, Bool, true, not, ◌||◌, eqb, Some, List, [], ◌∷◌, ◌++◌, length}
 use Rattle.std.proofs.Common.{map, take, slice_get, ap, sym, ◌∙◌, refl, arith, add-one, ne_eqb}
 use Rattle.sanlp.specs.declared.nest.Tag.{Tag}

@@ -1,7 +1,9 @@
 -- A window after an event of it.
 --
--- Behind a fire, before which all have come, the next window begins with what was left of the script. Any other event is noted as
--- one that has come. Whether it might come is a premise.
+-- `IsWindow` says that all before the window have come, that none behind it has, and of each event in it whether
+-- it has. A fire that is due comes behind all others of its window, so the next window begins behind it, with what
+-- was left of the script, and nothing in that one has come (`after_fire`). Any other event is noted in its place
+-- as one that has come (`after_other`). Whether the event might come is a premise.
 use Rattle.std.proofs.Common.{◌≡◌, ℕ, zero, suc, ◌+◌, ◌-◌, ◌<◌, ◌≤◌, Bool, true, false, Some, List, [], ◌∷◌}
 use Rattle.std.proofs.Common.{length, map, drop, slice_get, slice_set, option_map, ap, sym, ◌∙◌, refl, inl, inr, arith}
 use Rattle.std.proofs.Common.{length-drop, length-set}
@@ -18,7 +20,7 @@ use Rattle.port_sim.specs.declared.window.Pending.{Pending}
 use Rattle.port_sim.specs.declared.window.Window.{Window}
 use Rattle.port_sim.specs.Windows.{IsWindow, round, waiting}
 use Rattle.port_sim.proofs.Rounds.{event_here, fire_last, round_short}
-use Rattle.plain_data.proofs.Lists.{slice_get-some}
+use Rattle.plain_data.proofs.Lists.{slice_get-set_other, slice_get-some}
 
 -- Lists
 
@@ -31,14 +33,6 @@ pub get_set_here : {X : Type 0} (xs : List X) (i : ℕ) (x y : X) → slice_get 
 get_set_here [] i x y at = absurd (cc)
 get_set_here (z ∷ xs) zero x y at = let same : x ≡ y = cc in sym same
 get_set_here (z ∷ xs) (suc i) x y at = get_set_here xs i x y at
-
-pub get_set_there : {X : Type 0} (xs : List X) (i j : ℕ) (x : X) → (j ≡ i → ⊥)
-    → slice_get (slice_set xs i x) j ≡ slice_get xs j
-get_set_there [] i j x d = refl
-get_set_there (z ∷ xs) zero zero x d = absurd (d refl)
-get_set_there (z ∷ xs) zero (suc j) x d = refl
-get_set_there (z ∷ xs) (suc i) zero x d = refl
-get_set_there (z ∷ xs) (suc i) (suc j) x d = get_set_there xs i j x (λ same. d (ap suc same))
 
 pub waiting_events : (es : List Event) → map (λ (x : Pending). x.event) (map waiting es) ≡ es
 waiting_events [] = refl
@@ -147,7 +141,8 @@ module _ (script : List Event) (come : ℕ → Bool) (w w' : Window) (at place :
       let others : (i : ℕ) (y : Pending) → (i ≡ at → ⊥) → slice_get w'.events.items i ≡ Some y
       → slice_get w.events.items i ≡ Some y =
       λ i y d read.
-      sym (get_set_there w.events.items at i done d) ∙ ap (λ (l : List Pending). slice_get l i) (sym events) ∙ read in
+      sym (slice_get-set_other w.events.items at i done d) ∙ ap (λ (l : List Pending). slice_get l i) (sym events)
+      ∙ read in
       record {
         events = ap (map event_of) events ∙ map-set event_of w.events.items at done
             ∙ set_same (map event_of w.events.items) at x.event kept

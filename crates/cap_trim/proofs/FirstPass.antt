@@ -1,4 +1,9 @@
 -- The first number of a range that passes a test.
+--
+-- By induction on how many numbers are left: the first of them passes, and is the one that is found, or the search
+-- goes on behind it (`find_here`, `find_later`). So what is found lies in the range and passes (`find_is`), and
+-- each number before it fails (`find_least`); and all pass, or one fails that can be named (`one_fails`). Nothing
+-- is said of a number behind the first.
 use Rattle.std.proofs.Common.{◌≡◌, ℕ, zero, suc, ◌+◌, ◌-◌, ◌<◌, ◌≤◌, Bool, true, false, cond, Some}
 use Rattle.std.proofs.Common.{sym, ap, ◌∙◌, subst, refl, inl, inr, arith}
 use Rattle.std.proofs.lemmas.Bool.{and_from, and_parts, cases_Bool, cases_eq, cases_lt}

@@ -1,4 +1,9 @@
 -- A channel without room is never put to, so a network with a Put there doesn't end.
+--
+-- A Put comes only where its queue is shorter than the capacity, and no length is below 0 (`no_put`). So no step
+-- of a run adds a Put to the channel, and there are none at its end, by induction on the run (`no_puts`). A run
+-- that ends all has made each event of the writer's script, so its script has no such Put. That a channel with
+-- room is put to isn't said.
 use Rattle.std.proofs.Common.{◌≡◌, ℕ, ◌+◌, true, false, cond, eqb, Option, Some, None, List, [], ◌∷◌, length, take}
 use Rattle.std.proofs.Common.{count_by, refl, sym, ap, ◌∙◌, inl, inr, arith, ltb-true, eqb-true}
 use Rattle.std.proofs.lemmas.Bool.{cases_Bool}

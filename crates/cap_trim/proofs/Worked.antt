@@ -3,78 +3,53 @@
 -- A position counts the events that a process has made. Where a channel has one place less than it needs, its writer
 -- stands at a Put, and the others go on as far as tokens reach them. They are examples: that each run rests at the same
 -- positions is a law, and isn't shown here.
-use Rattle.std.proofs.Common.{◌≡◌, ℕ, false, List, [], ◌∷◌, ◌++◌, flat_map, length, refl}
-use Rattle.std.specs.Prelude.{slice_index_or, Some, None}
-use Rattle.std.specs.List.{range_with_len}
-use Rattle.net_core.specs.declared.network.Event.{Event}
+use Rattle.std.proofs.Common.{◌≡◌, ℕ, false, List, [], ◌∷◌, ◌++◌, refl}
+use Rattle.std.specs.Prelude.{Some, None}
 use Rattle.net_core.specs.declared.network.Event.TheVariants.{Get, Fire, Put}
 use Rattle.net_core.specs.declared.refs.Ref.TheVariants.{Slot}
 use Rattle.net_core.specs.Machine.{Net}
 use Rattle.net_core.specs.Orders.{reached}
 use Rattle.net_core.specs.Rules.{tags}
+use Rattle.net_core.proofs.SmallNetworks.{increments_within, network, times}
 use Rattle.cap_trim.specs.Capacities.{capacity_list, least_capacity, lowered_network, lowered_rests, trimmed_network}
 use Rattle.cap_trim.specs.Rests.{can_end, least_enabled, least_run, rest}
 
--- processes with these scripts and numbers of slots, and channels with these writers, readers and capacities
-abbrev network : List (List Event) → List ℕ → List ℕ → List ℕ → List ℕ → Net
-network scripts slots writers readers capacities = record {
-  processes = length scripts;
-  channels = length capacities;
-  script = λ p. slice_index_or scripts p [];
-  slots = λ p. slice_index_or slots p 0;
-  writer = λ c. slice_index_or writers c 0;
-  reader = λ c. slice_index_or readers c 0;
-  capacity = λ c. slice_index_or capacities c 0;
-}
-
--- the same events so many times
-abbrev times : ℕ → List Event → List Event
-times n events = flat_map (λ turn. events) (range_with_len 0 n)
-
--- for i < 3 y[i] = x[i] + 1, with these capacities
-abbrev increments : List ℕ → Net
-increments capacities =
-    network
-    (times 3 (Fire [] ∷ Put 0 ∷ [])
-    ∷ times 3 (Get 0 0 ∷ Fire (Slot 0 ∷ []) ∷ Put 1 ∷ [])
-    ∷ times 3 (Get 1 0 ∷ Fire (Slot 0 ∷ []) ∷ []) ∷ [])
-    (0 ∷ 1 ∷ 1 ∷ []) (0 ∷ 1 ∷ []) (1 ∷ 2 ∷ []) capacities
-
 -- One place each: at the fourth step the source waits before its second Put, and at the twelfth the assignment does.
-each_step : least_run (increments (1 ∷ 1 ∷ []))
+each_step : least_run (increments_within 3 (1 ∷ 1 ∷ []))
     ≡ 0 ∷ 0 ∷ 0 ∷ 1 ∷ 0 ∷ 0 ∷ 1 ∷ 1 ∷ 1 ∷ 0 ∷ 1 ∷ 2 ∷ 1 ∷ 1 ∷ 1 ∷ 2 ∷ 2 ∷ 1 ∷ 2 ∷ 2 ∷ 2 ∷ []
 unfolding least_run
 each_step = refl
 
-ends : rest (increments (1 ∷ 1 ∷ [])) ≡ 6 ∷ 9 ∷ 6 ∷ []
+ends : rest (increments_within 3 (1 ∷ 1 ∷ [])) ≡ 6 ∷ 9 ∷ 6 ∷ []
 unfolding least_run
 ends = refl
 
 -- the source fires twice and waits to put; the assignment is the only one that can go on
-fourth_step : least_enabled (increments (1 ∷ 1 ∷ []))
-    (reached (increments (1 ∷ 1 ∷ [])) tags (0 ∷ 0 ∷ 0 ∷ [])) ≡ Some 1
+fourth_step : least_enabled (increments_within 3 (1 ∷ 1 ∷ []))
+    (reached (increments_within 3 (1 ∷ 1 ∷ [])) tags (0 ∷ 0 ∷ 0 ∷ [])) ≡ Some 1
 fourth_step = refl
 
 -- without a place in channel 0 nothing goes on once the source has fired
-stuck : least_enabled (increments (0 ∷ 1 ∷ [])) (reached (increments (0 ∷ 1 ∷ [])) tags (0 ∷ [])) ≡ None
+stuck : least_enabled (increments_within 3 (0 ∷ 1 ∷ []))
+    (reached (increments_within 3 (0 ∷ 1 ∷ [])) tags (0 ∷ [])) ≡ None
 stuck = refl
 
 -- with three places in each channel one is enough
-enough : least_capacity (increments (3 ∷ 3 ∷ [])) 0 ≡ 1
+enough : least_capacity (increments_within 3 (3 ∷ 3 ∷ [])) 0 ≡ 1
 unfolding least_run
 enough = refl
 
-least : capacity_list (trimmed_network (increments (3 ∷ 3 ∷ []))) ≡ 1 ∷ 1 ∷ []
+least : capacity_list (trimmed_network (increments_within 3 (3 ∷ 3 ∷ []))) ≡ 1 ∷ 1 ∷ []
 unfolding trimmed_network least_run
 least = refl
 
 -- Without a place in channel 0 the source stands at its first Put. Without one in channel 1 the assignment stands at
 -- its first Put; it has got one token, a second one waits, and the source stands at its third Put.
-rests : lowered_rests (increments (1 ∷ 1 ∷ [])) ≡ (1 ∷ 0 ∷ 0 ∷ []) ∷ (5 ∷ 2 ∷ 0 ∷ []) ∷ []
+rests : lowered_rests (increments_within 3 (1 ∷ 1 ∷ [])) ≡ (1 ∷ 0 ∷ 0 ∷ []) ∷ (5 ∷ 2 ∷ 0 ∷ []) ∷ []
 unfolding least_run
 rests = refl
 
-unended : can_end (lowered_network (increments (1 ∷ 1 ∷ [])) 1) ≡ false
+unended : can_end (lowered_network (increments_within 3 (1 ∷ 1 ∷ [])) 1) ≡ false
 unfolding least_run
 unended = refl
 

@@ -4,13 +4,12 @@ ghost use Rattle.std.specs.Prelude.{◌≡◌, ◌<◌, ◌≤◌, ◌+◌, ℕ,
 ghost use Rattle.net_core.specs.Cuts.{enabled_at};
 ghost use Rattle.net_core.specs.Machine.{net_of};
 ghost use Rattle.net_core.specs.Progress.{IsProgress, at_capacities, cut_of};
-ghost use Rattle.net_core.specs.Shape.{FitsNumbers, IsWired};
 ghost use Rattle.cap_trim.specs.Capacities.{capacity_list, trimmed_network};
 ghost use Rattle.cap_trim.specs.Rests.{can_end};
 ghost use Rattle.cap_trim.specs.Rings.{IsRing, waits_at, waits_for};
 
 use crate::least_run::go_on;
-use net_core::{Event, Network, Progress};
+use net_core::{Event, Network, Progress, WiredNetwork};
 use std::alloc::{AllocError, Global};
 
 // The capacity of a channel.
@@ -117,15 +116,14 @@ fn needing_place(progress: &Progress, network: &Network, places: &[u32]) -> Opti
 /// at all processes for each process.
 pub(crate) fn needed_places(
     alloc: Global,
-    network: &Network,
+    wired: &WiredNetwork,
 ) -> Result<Option<Vec<u32>>, AllocError>
-    requires wired { IsWired (net_of network.now) }
-    requires numbers { FitsNumbers (net_of network.now) }
     ensures { IfOk result (λ found. IfSome found (λ places.
-        places.items ≡ capacity_list (trimmed_network (net_of network.now)))) }
+        places.items ≡ capacity_list (trimmed_network (net_of wired.now.network.now)))) }
 {
+    let network = wired.network;
     let mut places = vec![in alloc; 0; network.channels.len()]?;
-    let mut progress = Progress::new(alloc, network)?;
+    let mut progress = Progress::new(alloc, wired)?;
     // A channel isn't given more places than it has tokens, and there are fewer tokens than this.
     for _ in 0..u32::MAX {
         go_on(&mut progress, network, &places);

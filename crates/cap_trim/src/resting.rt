@@ -1,11 +1,11 @@
 ghost use Rattle.std.specs.Prelude.{◌≡◌, length, map, IfOk};
 ghost use Rattle.net_core.specs.Machine.{net_of};
-ghost use Rattle.net_core.specs.Shape.{FitsNumbers, IsShaped, IsWired};
+ghost use Rattle.net_core.specs.Shape.{FitsNumbers, IsShaped};
 ghost use Rattle.net_core.specs.Progress.{at_capacities};
 ghost use Rattle.cap_trim.specs.Rests.{rest};
 
 use crate::least_run::go_on;
-use net_core::{Network, Progress};
+use net_core::{Network, Progress, WiredNetwork};
 use sanlp::Points;
 use std::alloc::{AllocError, Global};
 
@@ -25,17 +25,16 @@ pub(crate) fn capacities_of(alloc: Global, network: &Network) -> Result<Vec<u32>
 /// Where a network comes to rest with other capacities.
 pub(crate) fn rest_at(
     alloc: Global,
-    network: &Network,
+    wired: &WiredNetwork,
     capacities: &[u32],
 ) -> Result<Vec<u32>, AllocError>
-    requires wired { IsWired (net_of network.now) }
-    requires numbers { FitsNumbers (net_of network.now) }
-    requires capacities { length capacities.now ≡ length network.now.channels }
+    requires { length capacities.now ≡ length wired.now.network.now.channels }
     ensures { IfOk result
-        (λ positions. positions.items ≡ rest (at_capacities (net_of network.now) capacities.now)) }
+        (λ positions. positions.items
+        ≡ rest (at_capacities (net_of wired.now.network.now) capacities.now)) }
 {
-    let mut progress = Progress::new(alloc, network)?;
-    go_on(&mut progress, network, capacities);
+    let mut progress = Progress::new(alloc, wired)?;
+    go_on(&mut progress, wired.network, capacities);
     Ok(progress.into_positions())
 }
 
@@ -48,5 +47,6 @@ pub fn rest(alloc: Global, network: &Network, _points: &Points) -> Result<Vec<u3
     ensures { IfOk result (λ positions. positions.items ≡ rest (net_of network.now)) }
 {
     let capacities = capacities_of(alloc, network)?;
-    rest_at(alloc, network, &capacities)
+    let wired = WiredNetwork { network };
+    rest_at(alloc, &wired, &capacities)
 }

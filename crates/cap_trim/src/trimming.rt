@@ -2,7 +2,7 @@ ghost use Rattle.std.specs.Prelude.{◌≡◌, ◌<◌, ◌≤◌, ℕ, length, 
 ghost use Rattle.net_checker.specs.Fits.{Fits};
 ghost use Rattle.swept_net.specs.Certificates.{swept_cert};
 ghost use Rattle.net_core.specs.Machine.{net_of};
-ghost use Rattle.net_core.specs.Shape.{FitsNumbers, IsWired};
+ghost use Rattle.net_core.specs.Shape.{FitsNumbers};
 ghost use Rattle.witness_plan.specs.Sequential.{with_capacities};
 ghost use Rattle.cap_trim.specs.Capacities.{IsPlanned, SticksBelow, capacity_list, least_capacity, lowered_rests, trimmed_network};
 ghost use Rattle.net_core.specs.Progress.{at_capacities};
@@ -12,7 +12,7 @@ use crate::least_run::go_on;
 use crate::needed_places::needed_places;
 use crate::resting::{capacities_of, rest_at};
 use derived_names::{has_classes_of_uses, names_last_writers};
-use net_core::{Network, Progress};
+use net_core::{Network, Progress, WiredNetwork};
 use plain_data::Items;
 use process_derive::fits_nest;
 use sanlp::{Nest, Points};
@@ -31,21 +31,20 @@ pub struct Trimmed {
 // time of one run.
 fn lower(
     alloc: Global,
-    network: &Network,
+    wired: &WiredNetwork,
     capacities: &mut [u32],
     channel: u32,
 ) -> Result<(), AllocError>
-    requires wired { IsWired (net_of network.now) }
-    requires numbers { FitsNumbers (net_of network.now) }
-    requires capacities { length capacities.old ≡ length network.now.channels }
-    requires channel { channel < length network.now.channels }
+    requires capacities { length capacities.old ≡ length wired.now.network.now.channels }
+    requires channel { channel < length wired.now.network.now.channels }
     ensures { OnOk result (capacities.new
         ≡ slice_set capacities.old channel
-        (least_capacity (at_capacities (net_of network.now) capacities.old) channel)) }
+        (least_capacity (at_capacities (net_of wired.now.network.now) capacities.old) channel)) }
 {
+    let network = wired.network;
     let at = channel as usize;
     let own = capacities[at];
-    let mut progress = Progress::new(alloc, network)?;
+    let mut progress = Progress::new(alloc, wired)?;
     for capacity in 0..own {
         capacities[at] = capacity;
         go_on(&mut progress, network, capacities);
@@ -58,18 +57,17 @@ fn lower(
 }
 
 // Gives each channel its least capacity, in ascending order. Where each place is found to be needed, one run finds them.
-fn trimmed_capacities(alloc: Global, network: &Network) -> Result<Vec<u32>, AllocError>
-    requires wired { IsWired (net_of network.now) }
-    requires numbers { FitsNumbers (net_of network.now) }
+fn trimmed_capacities(alloc: Global, wired: &WiredNetwork) -> Result<Vec<u32>, AllocError>
     ensures { IfOk result
-        (λ capacities. capacities.items ≡ capacity_list (trimmed_network (net_of network.now))) }
+        (λ capacities. capacities.items
+        ≡ capacity_list (trimmed_network (net_of wired.now.network.now))) }
 {
-    if let Some(places) = needed_places(alloc, network)? {
+    if let Some(places) = needed_places(alloc, wired)? {
         return Ok(places);
     }
-    let mut capacities = capacities_of(alloc, network)?;
-    for channel in 0..network.channels.len() as u32 {
-        lower(alloc, network, &mut capacities, channel)?;
+    let mut capacities = capacities_of(alloc, wired.network)?;
+    for channel in 0..wired.network.channels.len() as u32 {
+        lower(alloc, wired, &mut capacities, channel)?;
     }
     Ok(capacities)
 }
@@ -77,21 +75,20 @@ fn trimmed_capacities(alloc: Global, network: &Network) -> Result<Vec<u32>, Allo
 // Where the network with these capacities comes to rest when a channel has one place less, for each channel.
 fn lowered_rests(
     alloc: Global,
-    network: &Network,
+    wired: &WiredNetwork,
     capacities: &mut [u32],
 ) -> Result<Items<Items<u32>>, AllocError>
-    requires wired { IsWired (net_of network.now) }
-    requires numbers { FitsNumbers (net_of network.now) }
-    requires capacities { length capacities.old ≡ length network.now.channels }
+    requires { length capacities.old ≡ length wired.now.network.now.channels }
     ensures rests { IfOk result
-        (λ rests. rests ≡ lowered_rests (at_capacities (net_of network.now) capacities.old)) }
+        (λ rests. rests
+        ≡ lowered_rests (at_capacities (net_of wired.now.network.now) capacities.old)) }
     ensures same { OnOk result (capacities.new ≡ capacities.old) }
 {
     let mut rests = Items::new(alloc);
     for at in 0..capacities.len() {
         let kept = capacities[at];
         capacities[at] = kept.saturating_sub(1);
-        rests.push(Items::from_vec(rest_at(alloc, network, capacities)?))?;
+        rests.push(Items::from_vec(rest_at(alloc, wired, capacities)?))?;
         capacities[at] = kept;
     }
     Ok(rests)
@@ -101,16 +98,16 @@ fn lowered_rests(
 /// network ends, and tells for each channel where the network comes to rest with one place less there. It takes for each
 /// channel the time of two runs at most, and that of one more, in which needed places are looked for. Nothing is refused but
 /// want of memory.
-pub fn least_capacities(alloc: Global, network: &Network) -> Result<Trimmed, AllocError>
-    requires wired { IsWired (net_of network.now) }
-    requires numbers { FitsNumbers (net_of network.now) }
+pub fn least_capacities(alloc: Global, wired: &WiredNetwork) -> Result<Trimmed, AllocError>
     ensures capacities { IfOk result
-        (λ trimmed. trimmed.capacities ≡ capacity_list (trimmed_network (net_of network.now))) }
+        (λ trimmed. trimmed.capacities
+        ≡ capacity_list (trimmed_network (net_of wired.now.network.now))) }
     ensures rests { IfOk result
-        (λ trimmed. trimmed.rests ≡ lowered_rests (trimmed_network (net_of network.now))) }
+        (λ trimmed. trimmed.rests
+        ≡ lowered_rests (trimmed_network (net_of wired.now.network.now))) }
 {
-    let mut capacities = trimmed_capacities(alloc, network)?;
-    let rests = lowered_rests(alloc, network, &mut capacities)?;
+    let mut capacities = trimmed_capacities(alloc, wired)?;
+    let rests = lowered_rests(alloc, wired, &mut capacities)?;
     Ok(Trimmed {
         capacities: Items::from_vec(capacities),
         rests,
@@ -147,5 +144,6 @@ pub fn trim(
     fits_nest(nest);
     names_last_writers(nest);
     has_classes_of_uses(nest);
-    least_capacities(alloc, network)
+    let wired = WiredNetwork { network };
+    least_capacities(alloc, &wired)
 }

@@ -4,45 +4,16 @@
 -- is got at the next one at the earliest, and a place that a Get leaves at one clock is taken at the next one. Above
 -- the rows of a network stands at which clocks each process makes its Gets (G), Fires (F) and Puts (P), as it was
 -- reckoned. They are examples: no law follows from them.
-use Rattle.std.proofs.Common.{◌≡◌, ℕ, false, List, [], ◌∷◌, map, flat_map, length, refl}
-use Rattle.std.specs.Prelude.{slice_index_or}
-use Rattle.std.specs.List.{range_with_len}
-use Rattle.net_core.specs.declared.network.Event.{Event}
-use Rattle.net_core.specs.declared.network.Event.TheVariants.{Get, Fire, Put}
-use Rattle.net_core.specs.declared.refs.Ref.TheVariants.{Zero, Slot}
+use Rattle.std.proofs.Common.{◌≡◌, ℕ, false, List, [], ◌∷◌, map, refl}
 use Rattle.net_core.specs.Cuts.{positions}
 use Rattle.net_core.specs.Machine.{Net}
 use Rattle.net_core.specs.Rules.{tags}
+use Rattle.net_core.proofs.SmallNetworks.{corner, increments, sums}
 use Rattle.clock_sim.specs.Clocks.{after_clocks, clocked_run, clocks, enabled_processes, is_stuck_after}
-
--- processes with these scripts and numbers of slots, and channels with these writers, readers and capacities
-abbrev network : List (List Event) → List ℕ → List ℕ → List ℕ → List ℕ → Net
-network scripts slots writers readers capacities = record {
-  processes = length scripts;
-  channels = length capacities;
-  script = λ p. slice_index_or scripts p [];
-  slots = λ p. slice_index_or slots p 0;
-  writer = λ c. slice_index_or writers c 0;
-  reader = λ c. slice_index_or readers c 0;
-  capacity = λ c. slice_index_or capacities c 0;
-}
-
--- the same events so many times
-abbrev times : ℕ → List Event → List Event
-times n events = flat_map (λ turn. events) (range_with_len 0 n)
 
 -- where three processes stand after so many clocks
 abbrev standing : Net → ℕ → List ℕ
 standing n k = map (positions (after_clocks n tags k)) (0 ∷ 1 ∷ 2 ∷ [])
-
--- for i < turns y[i] = x[i] + 1, with this capacity of both channels
-abbrev increments : ℕ → ℕ → Net
-increments turns capacity =
-    network
-    (times turns (Fire [] ∷ Put 0 ∷ [])
-    ∷ times turns (Get 0 0 ∷ Fire (Slot 0 ∷ []) ∷ Put 1 ∷ [])
-    ∷ times turns (Get 1 0 ∷ Fire (Slot 0 ∷ []) ∷ []) ∷ [])
-    (0 ∷ 1 ∷ 1 ∷ []) (0 ∷ 1 ∷ []) (1 ∷ 2 ∷ []) (capacity ∷ capacity ∷ [])
 
 -- One turn: each event waits for the one before it.
 -- source F1 P2, assignment G3 F4 P5, sink G6 F7
@@ -80,16 +51,6 @@ more_room = refl
 -- for i < 3 s[i] = s[i - 1] + x[i]: the assignment is the reader and the writer of channel 0
 -- source F1 P2 F3 P4 F5 P6, assignment G3 F4 P5 P6 G7 G8 F9 P10 P11 G12 G13 F14 P15, sink G7 F8 G12 F13 G16 F17
 
-abbrev sums : Net
-sums =
-    network
-    (times 3 (Fire [] ∷ Put 1 ∷ [])
-    ∷ (Get 1 1 ∷ Fire (Zero ∷ Slot 1 ∷ []) ∷ Put 0 ∷ Put 2
-    ∷ Get 0 0 ∷ Get 1 1 ∷ Fire (Slot 0 ∷ Slot 1 ∷ []) ∷ Put 0 ∷ Put 2
-    ∷ Get 0 0 ∷ Get 1 1 ∷ Fire (Slot 0 ∷ Slot 1 ∷ []) ∷ Put 2 ∷ [])
-    ∷ times 3 (Get 2 0 ∷ Fire (Slot 0 ∷ []) ∷ []) ∷ [])
-    (0 ∷ 2 ∷ 1 ∷ []) (1 ∷ 0 ∷ 1 ∷ []) (1 ∷ 1 ∷ 2 ∷ []) (1 ∷ 3 ∷ 3 ∷ [])
-
 sums_clocks : clocks sums ≡ 17
 unfolding clocks
 sums_clocks = refl
@@ -103,16 +64,6 @@ sums_before_the_end = refl
 -- for j < 2 for i < 2 b[j][i] = a[i][j]: the processes end at the clocks 8, 14 and 16
 -- source F1 P2 F3 P4 F5 P6 F7 P8, assignment G3 F4 P5 G6 G7 F8 P9 F10 P11 G12 F13 P14,
 -- sink G6 F7 G10 F11 G12 F13 G15 F16
-
-abbrev corner : Net
-corner =
-    network
-    (times 4 (Fire [] ∷ Put 0 ∷ [])
-    ∷ (Get 0 0 ∷ Fire (Slot 0 ∷ []) ∷ Put 1
-    ∷ Get 0 0 ∷ Get 0 1 ∷ Fire (Slot 1 ∷ []) ∷ Put 1 ∷ Fire (Slot 0 ∷ []) ∷ Put 1
-    ∷ Get 0 0 ∷ Fire (Slot 0 ∷ []) ∷ Put 1 ∷ [])
-    ∷ times 4 (Get 1 0 ∷ Fire (Slot 0 ∷ []) ∷ []) ∷ [])
-    (0 ∷ 2 ∷ 1 ∷ []) (0 ∷ 1 ∷ []) (1 ∷ 2 ∷ []) (4 ∷ 4 ∷ [])
 
 corner_at_seven : standing corner 7 ≡ 7 ∷ 5 ∷ 2 ∷ []
 corner_at_seven = refl

@@ -1,7 +1,5 @@
 ghost use Rattle.std.specs.Prelude.{◌≡◌, [], length};
 ghost use Rattle.matrix_load.specs.Summary.{wrapping_sum as sum_of};
-ghost use Rattle.net_core.specs.Machine.{net_of};
-ghost use Rattle.net_core.specs.Shape.{FitsNumbers};
 ghost use Rattle.net_text.specs.NetworkText.{event_count as count_of_events};
 ghost use Rattle.command_answers.specs.Judging.{Judges};
 ghost use Rattle.command_answers.specs.Load.{Loads, product_cells};
@@ -33,7 +31,6 @@ fn product_sum(arrays: &Arrays) -> i64
 }
 
 fn summary_of(run: &NetworkRun) -> Summary
-    requires { FitsNumbers (net_of run.now.network) }
     ensures points { result.points ≡ run.now.entries }
     ensures channels { result.channels ≡ length run.now.network.channels }
     ensures events { result.events ≡ count_of_events run.now.network }

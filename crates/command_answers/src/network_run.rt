@@ -25,6 +25,7 @@ pub(crate) struct NetworkRun {
     pub(crate) entries: u64,
     pub(crate) network: Network,
     pub(crate) arrays: Arrays,
+    ghost numbers: { FitsNumbers (net_of network) },
 }
 
 // How many entries the trace of a nest with these points has.
@@ -55,7 +56,6 @@ pub(crate) fn run_by_threads<R: Threads + Wait + Sync, G: Gate + Sync>(
     requires { SizeIsOk nest.now }
     ensures entries { IfOk result (λ run. run.entries ≡ length (trace nest.now)) }
     ensures network { IfOk result (λ run. run.network ≡ planned_network nest.now policy) }
-    ensures numbers { IfOk result (λ run. FitsNumbers (net_of run.network)) }
     ensures arrays { IfOk result (λ run. run.arrays.arrays ≡ arrays nest.now inputs.now) }
 {
     let SweptNetwork {

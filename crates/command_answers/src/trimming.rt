@@ -14,6 +14,7 @@ use crate::source::sized_nest;
 use bundle::parts_of;
 use cap_trim::{Trimmed, least_capacities};
 use loop_class::Params;
+use net_core::WiredNetwork;
 use sanlp::Nest;
 use std::alloc::{AllocError, Global};
 use swept_net::compile_network;
@@ -30,7 +31,8 @@ fn trimmed(alloc: Global, policy: Policy, nest: &Nest) -> Result<Trimmed, AllocE
         ≡ lowered_rests (trimmed_network (net_of (planned_network nest.now policy)))) }
 {
     let network = compile_network(alloc, nest, policy)?;
-    least_capacities(alloc, &network)
+    let wired = WiredNetwork { network: &network };
+    least_capacities(alloc, &wired)
 }
 
 /// The least capacities of the network of a bundle's source.

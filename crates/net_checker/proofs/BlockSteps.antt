@@ -14,10 +14,9 @@ use Rattle.std.proofs.lemmas.Grind.{flat_map-append}
 use Rattle.sanlp.specs.declared.nest.Nest.{Nest}
 use Rattle.script_blocks.specs.declared.blocks.Blocks.{Blocks}
 use Rattle.script_blocks.specs.declared.blocks.BlockPart.{BlockPart}
-use Rattle.script_blocks.specs.declared.blocks.BlockPart.TheVariants.{Item}
 use Rattle.script_blocks.specs.declared.blocks.BlockPart.TheViews.{Repeat}
 use Rattle.script_blocks.specs.Expansion.{part_expansion, parts_expansion, repeated}
-use Rattle.script_blocks.proofs.Expansions.{expansion_item, expansion_repeat}
+use Rattle.script_blocks.proofs.Expansions.{expansion_repeat}
 use Rattle.script_blocks.proofs.Repetitions.{repeated_more}
 use Rattle.net_core.specs.declared.network.Event.{Event}
 use Rattle.net_core.specs.declared.network.Event.TheVariants.{Fire}
@@ -110,11 +109,6 @@ module _ (n : Nest) (net : Net) where
   leads_copy count xs a b c first second =
       leads_as (repeated count xs ++ xs) (repeated (count + 1) xs) a c (sym (repeated_more count xs))
       (leads_append (repeated count xs) xs a b c first second)
-
-  pub leads_item : (p : ℕ) (part : BlockPart ℕ) (a b : TagState) → part ≡ Item p → LeadsTo n net (p ∷ []) a b
-      → LeadsTo n net (part_expansion part) a b
-  leads_item p part a b is leads =
-      leads_as (p ∷ []) (part_expansion part) a b (sym (ap part_expansion is ∙ expansion_item p)) leads
 
   pub leads_repeat : (count : ℕ) (body : Blocks ℕ) (part : BlockPart ℕ) (a b : TagState) → part ≡ Repeat count body
       → LeadsTo n net (repeated count (parts_expansion body.parts)) a b → LeadsTo n net (part_expansion part) a b

@@ -1,5 +1,5 @@
 -- How the table of sources is made of trees.
-use Rattle.std.specs.Prelude.{◌≡◌, ◌<◌, ◌+◌, ◌+ℤ◌, ◌++◌, ◌∷◌, ℕ, ℤ, pos, Bool, true, false, List, [], Some, slice_get, slice_index_or}
+use Rattle.std.specs.Prelude.{◌≡◌, ◌<◌, ◌+◌, ◌+ℤ◌, ◌++◌, ◌∷◌, ◌≤◌, ◌*◌, ℕ, ℤ, pos, negsuc, Bool, true, false, List, [], Some, length, slice_get, slice_index_or}
 use Rattle.std.specs.Cmp.Lexicographic.{slice_cmp}
 use Rattle.std.specs.Ordering.{int_cmp}
 use Rattle.std.specs.declared.cmp.Ordering.TheVariants.{Less}
@@ -9,6 +9,7 @@ use Rattle.source_tree.specs.declared.cert.Origin.TheVariants.{Sweep, Tree}
 use Rattle.source_tree.specs.declared.tree.Found.TheVariants as found
 use Rattle.source_tree.specs.declared.tree.Tree.{Tree as SourceTree}
 use Rattle.source_tree.specs.Walk.{outcome_of}
+use Rattle.tree_eval.specs.Stretches.{values_at}
 use Rattle.net_checker.specs.declared.sources.ToldTags.{ToldTags}
 
 abbrev pub is_tree : Origin → Bool
@@ -23,11 +24,12 @@ pub record GivesTag (points : List (List (List ℤ))) (tree : SourceTree) (at : 
   pub is : outcome_of tree at
       ≡ Some (found.At (record { statement = tag.process; at = point }))
 
--- from this turn of its reader on, the tree gives the points of the tags that are told, one at each turn
+-- from this turn of its reader on, the tree gives the points of the tags that are left, one at each turn
 abbrev pub AreTold : List (List (List ℤ)) → SourceTree → List (List ℤ) → ℕ → ToldTags → Type 0
 AreTold points tree vectors turn told =
-    (i : ℕ) (at : List ℤ) → told.next + i < told.end → slice_get vectors (turn + i) ≡ Some at
-    → GivesTag points tree at (record { process = told.statement; turn = told.next + i })
+    (i : ℕ) (at : List ℤ) → i < told.left → slice_get vectors (turn + i) ≡ Some at
+    → GivesTag points tree at
+    (record { process = told.statement; turn = told.next + i * told.step })
 
 -- the second list differs from the first in its last number alone, which is greater by so much
 pub record IsAhead (by : ℕ) (first second : List ℤ) : Type 0 where
@@ -35,6 +37,30 @@ pub record IsAhead (by : ℕ) (first second : List ℤ) : Type 0 where
   pub value : ℤ
   pub is_first : first ≡ front ++ value ∷ []
   pub is_second : second ≡ front ++ (value +ℤ pos by) ∷ []
+
+-- so many vectors later stands one that is so much ahead
+pub record GoesOn (vectors : List (List ℤ)) (turn by : ℕ) : Type 0 where
+  pub at : List ℤ
+  pub later : List ℤ
+  pub there : slice_get vectors turn ≡ Some at
+  pub there_later : slice_get vectors (turn + by) ≡ Some later
+  pub ahead : IsAhead by at later
+
+-- how far the numbers of a vector are from those of another
+abbrev pub differences : List ℤ → List ℤ → List ℤ
+differences from to = values_at (negsuc 0) to from
+
+-- the last vector is as far from the third as the second from the first
+pub record IsStep (from second at after : List ℤ) : Type 0 where
+  pub as_long : length second ≡ length from
+  pub is : after ≡ values_at (pos 1) at (differences from second)
+
+-- the vectors at so many places, each by a step from the last, go on by the same numbers
+pub record IsEvenRow (vectors : List (List ℤ)) (first step turns : ℕ) : Type 0 where
+  pub from : List ℤ
+  pub steps : List ℤ
+  pub are : (i : ℕ) → i ≤ turns
+      → slice_get vectors (first + i * step) ≡ Some (values_at (pos i) from steps)
 
 -- iteration vectors in lexicographic order, each once
 abbrev pub AreInOrder : List (List ℤ) → Type 0

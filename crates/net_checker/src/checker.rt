@@ -8,6 +8,7 @@ ghost use Rattle.net_core.specs.Sound.{IsSound};
 ghost use Rattle.net_checker.specs.Fits.{Fits, first, first_with, verdict_of, with_entries};
 ghost use Rattle.net_checker.specs.Schedules.{entries_in};
 
+use crate::candidate::{Candidate, Fitting};
 use crate::classes::class_refusal;
 use crate::entries::schedule_refusal;
 use crate::firings::firing_refusal;
@@ -25,61 +26,60 @@ use std::alloc::{AllocError, Global};
 // What is wrong first with these entries as the schedule, if anything is. The last writers of all reads may be known.
 fn first_refusal(
     alloc: Global,
-    nest: &Nest,
-    points: &Points,
-    network: &Network,
+    candidate: &Candidate,
     cert: &Cert,
     schedule: &Schedule,
     sources: Option<SourceTable>,
 ) -> Result<Option<Refusal>, AllocError>
-    requires size { SizeIsOk nest.now }
-    requires points { points.now.of ≡ points_of nest.now }
-    requires numbers { FitsNumbers (net_of network.now) }
-    requires sources { IfSome sources (λ table. table.of ≡ sources_of nest.now) }
+    requires { IfSome sources (λ table. table.of ≡ sources_of candidate.now.nest.now) }
     ensures { IfOk result (λ refusal. refusal
-        ≡ first_with nest.now network.now cert.now (entries_in schedule.now)) }
+        ≡ first_with candidate.now.nest.now candidate.now.network.now cert.now
+        (entries_in schedule.now)) }
 {
+    let nest = candidate.nest;
+    let network = candidate.network;
     if let Some(refusal) = shape_refusal(nest, network, cert) {
         return Ok(Some(refusal));
     }
-    if let Some(refusal) = firing_refusal(nest, points, network) {
+    if let Some(refusal) = firing_refusal(candidate) {
         return Ok(Some(refusal));
     }
     let mut rows = Items::new(alloc);
-    if let Some(refusal) = source_refusal(alloc, nest, points, cert, &mut rows)? {
+    if let Some(refusal) = source_refusal(alloc, candidate, cert, &mut rows)? {
         return Ok(Some(refusal));
     }
+    let fitting = Fitting {
+        nest,
+        points: candidate.points,
+        network,
+    };
     let table = table(alloc, nest, cert, sources, rows)?;
-    if let Some(refusal) = schedule_refusal(alloc, nest, points, network, &table, schedule)? {
+    if let Some(refusal) = schedule_refusal(alloc, &fitting, &table, schedule)? {
         return Ok(Some(refusal));
     }
     drop(table);
-    class_refusal(alloc, network)
+    class_refusal(alloc, &fitting)
 }
 
 // The verdict on the certificate with these entries as its schedule. The last writers of all reads may be known.
 fn judge(
     alloc: Global,
-    nest: &Nest,
-    points: &Points,
-    network: &Network,
+    candidate: &Candidate,
     cert: &Cert,
     schedule: &Schedule,
     sources: Option<SourceTable>,
 ) -> Result<Verdict, AllocError>
-    requires size { SizeIsOk nest.now }
-    requires points { points.now.of ≡ points_of nest.now }
-    requires numbers { FitsNumbers (net_of network.now) }
-    requires sources { IfSome sources (λ table. table.of ≡ sources_of nest.now) }
+    requires { IfSome sources (λ table. table.of ≡ sources_of candidate.now.nest.now) }
     ensures exact { IfOk result
-        (λ verdict. verdict ≡ verdict_of (first nest.now network.now
+        (λ verdict. verdict ≡ verdict_of (first candidate.now.nest.now candidate.now.network.now
         (with_entries cert.now (entries_in schedule.now)))) }
     ensures fits { IfOk result (λ verdict. (verdict ≡ Verdict.Accepted)
-        ↔ Fits nest.now network.now (with_entries cert.now (entries_in schedule.now))) }
-    ensures sound { IfOk result
-        (λ verdict. verdict ≡ Verdict.Accepted → IsSound nest.now network.now) }
+        ↔ Fits candidate.now.nest.now candidate.now.network.now
+        (with_entries cert.now (entries_in schedule.now))) }
+    ensures sound { IfOk result (λ verdict. verdict ≡ Verdict.Accepted
+        → IsSound candidate.now.nest.now candidate.now.network.now) }
 {
-    match first_refusal(alloc, nest, points, network, cert, schedule, sources)? {
+    match first_refusal(alloc, candidate, cert, schedule, sources)? {
         Some(refusal) => Ok(Verdict::Refused(refusal)),
         None => Ok(Verdict::Accepted),
     }
@@ -106,8 +106,13 @@ pub fn check(
     ensures sound { IfOk result
         (λ verdict. verdict ≡ Verdict.Accepted → IsSound nest.now network.now) }
 {
+    let candidate = Candidate {
+        nest,
+        points,
+        network,
+    };
     let entries = Schedule::Listed(cert.schedule.as_slice());
-    judge(alloc, nest, points, network, cert, &entries, None)
+    judge(alloc, &candidate, cert, &entries, None)
 }
 
 /// The answer of `check` to the certificate with this schedule in place of its own. The schedule stays folded, so that it
@@ -130,8 +135,13 @@ pub fn check_folded(
     ensures sound { IfOk result
         (λ verdict. verdict ≡ Verdict.Accepted → IsSound nest.now network.now) }
 {
+    let candidate = Candidate {
+        nest,
+        points,
+        network,
+    };
     let entries = Schedule::Folded(schedule);
-    judge(alloc, nest, points, network, cert, &entries, None)
+    judge(alloc, &candidate, cert, &entries, None)
 }
 
 /// The answer of `check`, where the last writers of all reads are known, as from the sweep that the network was derived by. The
@@ -155,6 +165,11 @@ pub fn check_with_sources(
     ensures sound { IfOk result
         (λ verdict. verdict ≡ Verdict.Accepted → IsSound nest.now network.now) }
 {
+    let candidate = Candidate {
+        nest,
+        points,
+        network,
+    };
     let entries = Schedule::Listed(cert.schedule.as_slice());
-    judge(alloc, nest, points, network, cert, &entries, Some(sources))
+    judge(alloc, &candidate, cert, &entries, Some(sources))
 }

@@ -1,13 +1,14 @@
 ghost use Rattle.std.specs.Prelude.{◌≡◌, ◌<◌, ◌+◌, ◌^◌, ℕ, [], ◌∷◌, ◌++◌, length, replicate, count_by, slice_get, slice_index, slice_index_or, Some, None, IfOk, OnOk};
 ghost use Rattle.std.specs.List.{flat_map};
 ghost use Rattle.net_core.specs.Machine.{net_of};
-ghost use Rattle.net_core.specs.Shape.{is_get, FitsNumbers, IsWired};
+ghost use Rattle.net_core.specs.Shape.{is_get};
 ghost use Rattle.net_core.specs.Uses.{use_of, uses, uses_before};
 ghost use Rattle.net_checker.specs.Classes.{class_refusal, same_class};
 ghost use Rattle.net_checker.specs.Collected.{IsCollected, IsCollectedBefore};
 ghost use Rattle.net_checker.specs.SlotRows.{slots_in};
 ghost use Rattle.script_blocks.specs.Expansion.{part_expansion, parts_expansion, repeated};
 
+use crate::candidate::Fitting;
 use crate::parts::{process_of, script_of};
 use crate::slots::Slots;
 use crate::tag_state::empty_slots;
@@ -59,24 +60,22 @@ fn add_fire(
 
 // Goes past an event of a process's script: a Get is counted and fills its slot, and a Fire adds what it uses.
 fn add_event(
-    network: &Network,
+    fitting: &Fitting,
     process: u32,
     event: &Event,
     slots: &mut Slots<(u32, u32)>,
     gets: &mut [u32],
     uses: &mut [Items<u32>],
 ) -> Result<(), AllocError>
-    requires wired { IsWired (net_of network.now) }
-    requires numbers { FitsNumbers (net_of network.now) }
-    requires place { IsCollectedBefore (net_of network.now) process (event.now ∷ [])
+    requires { IsCollectedBefore (net_of fitting.now.network.now) process (event.now ∷ [])
         gets.old uses.old (slots_in slots.old) }
     ensures { OnOk result
-        ((place : IsCollectedBefore (net_of network.now) process (event.now ∷ [])
+        ((place : IsCollectedBefore (net_of fitting.now.network.now) process (event.now ∷ [])
         gets.old uses.old (slots_in slots.old))
-        → IsCollected (net_of network.now) process place.first_gets place.first_uses
+        → IsCollected (net_of fitting.now.network.now) process place.first_gets place.first_uses
         gets.new uses.new (slots_in slots.new) (length (place.before ++ event.now ∷ []))) }
 {
-    let _ = network;
+    let _ = fitting;
     let _ = process;
     match event {
         Event::Get { channel, slot } => {
@@ -94,55 +93,51 @@ fn add_event(
 // The same of all events for which these parts stand.
 #[cycle(adding)]
 fn add_parts(
-    network: &Network,
+    fitting: &Fitting,
     process: u32,
     parts: &[BlockPart<Event>],
     slots: &mut Slots<(u32, u32)>,
     gets: &mut [u32],
     uses: &mut [Items<u32>],
 ) -> Result<(), AllocError>
-    requires wired { IsWired (net_of network.now) }
-    requires numbers { FitsNumbers (net_of network.now) }
-    requires place { IsCollectedBefore (net_of network.now) process (parts_expansion parts.now)
-        gets.old uses.old (slots_in slots.old) }
+    requires { IsCollectedBefore (net_of fitting.now.network.now) process
+        (parts_expansion parts.now) gets.old uses.old (slots_in slots.old) }
     ensures { OnOk result
-        ((place : IsCollectedBefore (net_of network.now) process (parts_expansion parts.now)
-        gets.old uses.old (slots_in slots.old))
-        → IsCollected (net_of network.now) process place.first_gets place.first_uses
+        ((place : IsCollectedBefore (net_of fitting.now.network.now) process
+        (parts_expansion parts.now) gets.old uses.old (slots_in slots.old))
+        → IsCollected (net_of fitting.now.network.now) process place.first_gets place.first_uses
         gets.new uses.new (slots_in slots.new)
         (length (place.before ++ parts_expansion parts.now))) }
 {
     for part in parts {
-        add_part(network, process, part, slots, gets, uses)?;
+        add_part(fitting, process, part, slots, gets, uses)?;
     }
     Ok(())
 }
 
 #[cycle(adding)]
 fn add_part(
-    network: &Network,
+    fitting: &Fitting,
     process: u32,
     part: &BlockPart<Event>,
     slots: &mut Slots<(u32, u32)>,
     gets: &mut [u32],
     uses: &mut [Items<u32>],
 ) -> Result<(), AllocError>
-    requires wired { IsWired (net_of network.now) }
-    requires numbers { FitsNumbers (net_of network.now) }
-    requires place { IsCollectedBefore (net_of network.now) process (part_expansion part.now)
+    requires { IsCollectedBefore (net_of fitting.now.network.now) process (part_expansion part.now)
         gets.old uses.old (slots_in slots.old) }
     ensures { OnOk result
-        ((place : IsCollectedBefore (net_of network.now) process (part_expansion part.now)
-        gets.old uses.old (slots_in slots.old))
-        → IsCollected (net_of network.now) process place.first_gets place.first_uses
+        ((place : IsCollectedBefore (net_of fitting.now.network.now) process
+        (part_expansion part.now) gets.old uses.old (slots_in slots.old))
+        → IsCollected (net_of fitting.now.network.now) process place.first_gets place.first_uses
         gets.new uses.new (slots_in slots.new)
         (length (place.before ++ part_expansion part.now))) }
 {
     match part {
-        BlockPart::Item(event) => add_event(network, process, event, slots, gets, uses),
+        BlockPart::Item(event) => add_event(fitting, process, event, slots, gets, uses),
         BlockPart::Repeat(count, body) => {
             let parts = body.parts.as_slice();
-            add_copies(network, process, *count, parts, slots, gets, uses)
+            add_copies(fitting, process, *count, parts, slots, gets, uses)
         }
     }
 }
@@ -150,7 +145,7 @@ fn add_part(
 // The same of so many copies of these parts.
 #[cycle(adding)]
 fn add_copies(
-    network: &Network,
+    fitting: &Fitting,
     process: u32,
     count: u32,
     parts: &[BlockPart<Event>],
@@ -158,78 +153,78 @@ fn add_copies(
     gets: &mut [u32],
     uses: &mut [Items<u32>],
 ) -> Result<(), AllocError>
-    requires wired { IsWired (net_of network.now) }
-    requires numbers { FitsNumbers (net_of network.now) }
-    requires place { IsCollectedBefore (net_of network.now) process
+    requires { IsCollectedBefore (net_of fitting.now.network.now) process
         (repeated count (parts_expansion parts.now)) gets.old uses.old (slots_in slots.old) }
     ensures { OnOk result
-        ((place : IsCollectedBefore (net_of network.now) process
+        ((place : IsCollectedBefore (net_of fitting.now.network.now) process
         (repeated count (parts_expansion parts.now)) gets.old uses.old (slots_in slots.old))
-        → IsCollected (net_of network.now) process place.first_gets place.first_uses
+        → IsCollected (net_of fitting.now.network.now) process place.first_gets place.first_uses
         gets.new uses.new (slots_in slots.new)
         (length (place.before ++ repeated count (parts_expansion parts.now)))) }
 {
     for _ in 0..count {
-        add_parts(network, process, parts, slots, gets, uses)?;
+        add_parts(fitting, process, parts, slots, gets, uses)?;
     }
     Ok(())
 }
 
 // Counts the Gets of a process's script, and adds its uses. No slot was filled, and none of its channels got from before.
 fn add_events(
-    network: &Network,
+    fitting: &Fitting,
     process: u32,
     slots: &mut Slots<(u32, u32)>,
     gets: &mut [u32],
     uses: &mut [Items<u32>],
 ) -> Result<(), AllocError>
-    requires wired { IsWired (net_of network.now) }
-    requires numbers { FitsNumbers (net_of network.now) }
-    requires process { process < length network.now.processes }
-    requires slots { slots_in slots.old ≡ replicate ((net_of network.now).slots process) None }
-    requires gets { length gets.old ≡ length network.now.channels }
-    requires uses { length uses.old ≡ length network.now.channels }
-    requires fresh { (c : ℕ) → (net_of network.now).reader c ≡ process
+    requires process { process < length fitting.now.network.now.processes }
+    requires slots { slots_in slots.old
+        ≡ replicate ((net_of fitting.now.network.now).slots process) None }
+    requires gets { length gets.old ≡ length fitting.now.network.now.channels }
+    requires uses { length uses.old ≡ length fitting.now.network.now.channels }
+    requires fresh { (c : ℕ) → (net_of fitting.now.network.now).reader c ≡ process
         → slice_index gets.old c ≡ 0 }
-    ensures gets { OnOk result ((c : ℕ) → c < length network.now.channels
+    ensures gets { OnOk result ((c : ℕ) → c < length fitting.now.network.now.channels
         → slice_index gets.new c
-        ≡ slice_index gets.old c + count_by (is_get c) ((net_of network.now).script process)) }
-    ensures uses { OnOk result ((c : ℕ) → c < length network.now.channels
+        ≡ slice_index gets.old c
+        + count_by (is_get c) ((net_of fitting.now.network.now).script process)) }
+    ensures uses { OnOk result ((c : ℕ) → c < length fitting.now.network.now.channels
         → slice_index_or uses.new c []
         ≡ slice_index_or uses.old c []
-        ++ uses_before (net_of network.now) c process
-        (length ((net_of network.now).script process))) }
+        ++ uses_before (net_of fitting.now.network.now) c process
+        (length ((net_of fitting.now.network.now).script process))) }
 {
-    let parts = script_of(network, process).blocks().parts.as_slice();
-    add_parts(network, process, parts, slots, gets, uses)
+    let parts = script_of(fitting.network, process)
+        .blocks()
+        .parts
+        .as_slice();
+    add_parts(fitting, process, parts, slots, gets, uses)
 }
 
 // The same, with slots of its own.
 fn add_script(
     alloc: Global,
-    network: &Network,
+    fitting: &Fitting,
     process: u32,
     gets: &mut [u32],
     uses: &mut [Items<u32>],
 ) -> Result<(), AllocError>
-    requires wired { IsWired (net_of network.now) }
-    requires numbers { FitsNumbers (net_of network.now) }
-    requires process { process < length network.now.processes }
-    requires gets { length gets.old ≡ length network.now.channels }
-    requires uses { length uses.old ≡ length network.now.channels }
-    requires fresh { (c : ℕ) → (net_of network.now).reader c ≡ process
+    requires process { process < length fitting.now.network.now.processes }
+    requires gets { length gets.old ≡ length fitting.now.network.now.channels }
+    requires uses { length uses.old ≡ length fitting.now.network.now.channels }
+    requires fresh { (c : ℕ) → (net_of fitting.now.network.now).reader c ≡ process
         → slice_index gets.old c ≡ 0 }
-    ensures gets { OnOk result ((c : ℕ) → c < length network.now.channels
+    ensures gets { OnOk result ((c : ℕ) → c < length fitting.now.network.now.channels
         → slice_index gets.new c
-        ≡ slice_index gets.old c + count_by (is_get c) ((net_of network.now).script process)) }
-    ensures uses { OnOk result ((c : ℕ) → c < length network.now.channels
+        ≡ slice_index gets.old c
+        + count_by (is_get c) ((net_of fitting.now.network.now).script process)) }
+    ensures uses { OnOk result ((c : ℕ) → c < length fitting.now.network.now.channels
         → slice_index_or uses.new c []
         ≡ slice_index_or uses.old c []
-        ++ uses_before (net_of network.now) c process
-        (length ((net_of network.now).script process))) }
+        ++ uses_before (net_of fitting.now.network.now) c process
+        (length ((net_of fitting.now.network.now).script process))) }
 {
-    let mut slots = empty_slots(alloc, process_of(network, process))?;
-    add_events(network, process, &mut slots, gets, uses)
+    let mut slots = empty_slots(alloc, process_of(fitting.network, process))?;
+    add_events(fitting, process, &mut slots, gets, uses)
 }
 
 // So many empty lists.
@@ -244,18 +239,17 @@ fn empty_lists(alloc: Global, count: usize) -> Result<Vec<Items<u32>>, AllocErro
 }
 
 // The uses of each channel.
-fn channel_uses(alloc: Global, network: &Network) -> Result<Vec<Items<u32>>, AllocError>
-    requires wired { IsWired (net_of network.now) }
-    requires numbers { FitsNumbers (net_of network.now) }
-    ensures length { IfOk result (λ lists. length lists.items ≡ length network.now.channels) }
+fn channel_uses(alloc: Global, fitting: &Fitting) -> Result<Vec<Items<u32>>, AllocError>
+    ensures length { IfOk result
+        (λ lists. length lists.items ≡ length fitting.now.network.now.channels) }
     ensures uses { IfOk result
-        (λ lists. (c : ℕ) → c < length network.now.channels
-        → slice_index_or lists.items c [] ≡ uses (net_of network.now) c) }
+        (λ lists. (c : ℕ) → c < length fitting.now.network.now.channels
+        → slice_index_or lists.items c [] ≡ uses (net_of fitting.now.network.now) c) }
 {
-    let mut uses = empty_lists(alloc, network.channels.len())?;
-    let mut gets = vec![in alloc; 0; network.channels.len()]?;
-    for process in 0..network.processes.len() as u32 {
-        add_script(alloc, network, process, &mut gets, &mut uses)?;
+    let mut uses = empty_lists(alloc, fitting.network.channels.len())?;
+    let mut gets = vec![in alloc; 0; fitting.network.channels.len()]?;
+    for process in 0..fitting.network.processes.len() as u32 {
+        add_script(alloc, fitting, process, &mut gets, &mut uses)?;
     }
     Ok(uses)
 }
@@ -288,11 +282,9 @@ fn first_other_class(
 }
 
 /// The first channel whose class isn't that of its uses, if there is one.
-pub(crate) fn class_refusal(alloc: Global, network: &Network) -> Result<Option<Refusal>, AllocError>
-    requires wired { IsWired (net_of network.now) }
-    requires numbers { FitsNumbers (net_of network.now) }
-    ensures { IfOk result (λ refusal. refusal ≡ class_refusal network.now) }
+pub(crate) fn class_refusal(alloc: Global, fitting: &Fitting) -> Result<Option<Refusal>, AllocError>
+    ensures { IfOk result (λ refusal. refusal ≡ class_refusal fitting.now.network.now) }
 {
-    let uses = channel_uses(alloc, network)?;
-    first_other_class(alloc, network, &uses)
+    let uses = channel_uses(alloc, fitting)?;
+    first_other_class(alloc, fitting.network, &uses)
 }

@@ -1,12 +1,9 @@
 ghost use Rattle.std.specs.Prelude.{◌≡◌, ◌↔◌, ◌<◌, ◌+◌, ◌^◌, ℕ, ℤ, List, [], ◌∷◌, None, length, slice_get, IfOk, IsFalse, IsTrue, OnOk};
-ghost use Rattle.sanlp.specs.Points.{points_of};
 ghost use Rattle.source_tree.specs.Sources.{sources_of};
 ghost use Rattle.net_core.specs.Cuts.{positions};
 ghost use Rattle.net_core.specs.Machine.{net_of};
 ghost use Rattle.net_core.specs.Names.{name_of};
 ghost use Rattle.net_core.specs.Rules.{vector_at};
-ghost use Rattle.net_core.specs.Shape.{FitsNumbers};
-ghost use Rattle.net_core.specs.Sound.{FitsNest};
 ghost use Rattle.net_checker.specs.Choice.{first_below};
 ghost use Rattle.net_checker.specs.Entries.{entry_refusal, is_wanted, name_refusal, point_of, schedule_refusal, seen_of, unended, wanted_of};
 ghost use Rattle.net_checker.specs.Lookups.{refused_reference, source_in};
@@ -15,13 +12,14 @@ ghost use Rattle.net_checker.specs.SlotRows.{slots_in};
 ghost use Rattle.net_checker.specs.TagStates.{IsTagState, cut_in, state_of};
 ghost use Rattle.script_blocks.specs.Expansion.{part_expansion, parts_expansion, repeated};
 
+use crate::candidate::Fitting;
 use crate::schedule::Schedule;
 use crate::slots::Slots;
 use crate::tag_state::TagState;
 use crate::verdict::{Refusal, Seen, Wanted};
 use affine_core::Vector;
 use net_core::{Event, Network, Ref, Refs};
-use sanlp::{Nest, Point, Points, Tag, reads_before};
+use sanlp::{Point, Points, Tag, reads_before};
 use script_blocks::{BlockPart, Script};
 use source_tree::SourceTable;
 use std::alloc::{AllocError, Global};
@@ -156,32 +154,29 @@ fn judge_fire(
 
 // Why an entry of the schedule is refused in this state, if it is.
 fn judge(
-    nest: &Nest,
-    points: &Points,
-    network: &Network,
+    fitting: &Fitting,
     table: &SourceTable,
     state: &TagState,
     entry: u32,
     process: u32,
 ) -> Option<Refusal>
-    requires points { points.now.of ≡ points_of nest.now }
-    requires fits { FitsNest nest.now network.now }
-    requires table { table.now.of ≡ sources_of nest.now }
-    requires state { IsTagState (net_of network.now) state.now }
+    requires table { table.now.of ≡ sources_of fitting.now.nest.now }
+    requires state { IsTagState (net_of fitting.now.network.now) state.now }
     ensures { result
-        ≡ entry_refusal nest.now (net_of network.now)
-        (positions (state_of (net_of network.now) state.now)) entry process }
+        ≡ entry_refusal fitting.now.nest.now (net_of fitting.now.network.now)
+        (positions (state_of (net_of fitting.now.network.now) state.now)) entry process }
 {
+    let network = fitting.network;
     if !state.is_enabled(network, process) {
         return Some(Refusal::NotEnabled(entry));
     }
     match state.next(network, process) {
         Event::Get { .. } | Event::Put { .. } => None,
         Event::Fire { refs } => {
-            let first_read = reads_before(nest, process as usize);
+            let first_read = reads_before(fitting.nest, process as usize);
             let turn = state.turn(network, process) as usize;
             judge_fire(
-                points,
+                fitting.points,
                 table,
                 first_read,
                 turn,
@@ -218,22 +213,23 @@ fn names_are_wanted(
 // Makes one entry of the schedule, if it is fine. It answers whether it is. A refusal is a large value, so it is made only
 // where one is.
 fn step_if_fine(
-    nest: &Nest,
-    network: &Network,
+    fitting: &Fitting,
     table: &SourceTable,
     state: &mut TagState,
     process: u32,
 ) -> Result<bool, AllocError>
-    requires fits { FitsNest nest.now network.now }
-    requires table { table.now.of ≡ sources_of nest.now }
-    requires state { IsTagState (net_of network.now) state.old }
-    ensures state { OnOk result (IsTagState (net_of network.now) state.new) }
+    requires table { table.now.of ≡ sources_of fitting.now.nest.now }
+    requires state { IsTagState (net_of fitting.now.network.now) state.old }
+    ensures state { OnOk result (IsTagState (net_of fitting.now.network.now) state.new) }
     ensures fine { IfOk result (λ fine. IsTrue fine
-        → LeadsTo nest.now (net_of network.now) (process ∷ []) state.old state.new) }
+        → LeadsTo fitting.now.nest.now (net_of fitting.now.network.now) (process ∷ [])
+        state.old state.new) }
     ensures unchanged { IfOk result (λ fine. IsFalse fine → state.new ≡ state.old) }
     ensures refused { IfOk result (λ fine. IsFalse fine → (entry : ℕ)
-        → entry_refusal nest.now (net_of network.now) (cut_in state.old) entry process ≡ None → ⊥) }
+        → entry_refusal fitting.now.nest.now (net_of fitting.now.network.now)
+        (cut_in state.old) entry process ≡ None → ⊥) }
 {
+    let network = fitting.network;
     if process as usize >= network.processes.len() {
         return Ok(false);
     }
@@ -247,7 +243,7 @@ fn step_if_fine(
             Ok(true)
         }
         Some(Event::Fire { refs }) => {
-            let first_read = reads_before(nest, process as usize);
+            let first_read = reads_before(fitting.nest, process as usize);
             let turn = state.turn(network, process) as usize;
             let slots = state.slots(network, process);
             if !names_are_wanted(table, first_read, turn, slots, refs) {
@@ -285,47 +281,42 @@ fn unended(network: &Network, state: &TagState) -> Option<Refusal>
 // What is wrong with a schedule that stands in a list, if anything is.
 fn listed_refusal(
     alloc: Global,
-    nest: &Nest,
-    points: &Points,
-    network: &Network,
+    fitting: &Fitting,
     table: &SourceTable,
     schedule: &[u32],
 ) -> Result<Option<Refusal>, AllocError>
-    requires points { points.now.of ≡ points_of nest.now }
-    requires fits { FitsNest nest.now network.now }
-    requires numbers { FitsNumbers (net_of network.now) }
-    requires table { table.now.of ≡ sources_of nest.now }
+    requires { table.now.of ≡ sources_of fitting.now.nest.now }
     ensures { IfOk result
-        (λ refusal. refusal ≡ schedule_refusal nest.now network.now schedule.now) }
+        (λ refusal. refusal
+        ≡ schedule_refusal fitting.now.nest.now fitting.now.network.now schedule.now) }
 {
-    let mut state = TagState::new(alloc, network)?;
+    let mut state = TagState::new(alloc, fitting)?;
     for (entry, process) in schedule.iter().enumerate() {
-        if !step_if_fine(nest, network, table, &mut state, *process)? {
+        if !step_if_fine(fitting, table, &mut state, *process)? {
             let entry = entry as u32;
-            return Ok(judge(nest, points, network, table, &state, entry, *process));
+            return Ok(judge(fitting, table, &state, entry, *process));
         }
     }
-    Ok(unended(network, &state))
+    Ok(unended(fitting.network, &state))
 }
 
 // Makes the entries for which these parts stand, up to the first that isn't fine. It answers whether all are.
 #[cycle(stepping)]
 fn step_over_parts(
-    nest: &Nest,
-    network: &Network,
+    fitting: &Fitting,
     table: &SourceTable,
     state: &mut TagState,
     parts: &[BlockPart<u32>],
 ) -> Result<bool, AllocError>
-    requires fits { FitsNest nest.now network.now }
-    requires table { table.now.of ≡ sources_of nest.now }
-    requires state { IsTagState (net_of network.now) state.old }
-    ensures state { OnOk result (IsTagState (net_of network.now) state.new) }
+    requires table { table.now.of ≡ sources_of fitting.now.nest.now }
+    requires state { IsTagState (net_of fitting.now.network.now) state.old }
+    ensures state { OnOk result (IsTagState (net_of fitting.now.network.now) state.new) }
     ensures fine { IfOk result (λ fine. IsTrue fine
-        → LeadsTo nest.now (net_of network.now) (parts_expansion parts.now) state.old state.new) }
+        → LeadsTo fitting.now.nest.now (net_of fitting.now.network.now)
+        (parts_expansion parts.now) state.old state.new) }
 {
     for part in parts {
-        if !step_over_part(nest, network, table, state, part)? {
+        if !step_over_part(fitting, table, state, part)? {
             return Ok(false);
         }
     }
@@ -335,23 +326,22 @@ fn step_over_parts(
 // The same of one part.
 #[cycle(stepping)]
 fn step_over_part(
-    nest: &Nest,
-    network: &Network,
+    fitting: &Fitting,
     table: &SourceTable,
     state: &mut TagState,
     part: &BlockPart<u32>,
 ) -> Result<bool, AllocError>
-    requires fits { FitsNest nest.now network.now }
-    requires table { table.now.of ≡ sources_of nest.now }
-    requires state { IsTagState (net_of network.now) state.old }
-    ensures state { OnOk result (IsTagState (net_of network.now) state.new) }
+    requires table { table.now.of ≡ sources_of fitting.now.nest.now }
+    requires state { IsTagState (net_of fitting.now.network.now) state.old }
+    ensures state { OnOk result (IsTagState (net_of fitting.now.network.now) state.new) }
     ensures fine { IfOk result (λ fine. IsTrue fine
-        → LeadsTo nest.now (net_of network.now) (part_expansion part.now) state.old state.new) }
+        → LeadsTo fitting.now.nest.now (net_of fitting.now.network.now)
+        (part_expansion part.now) state.old state.new) }
 {
     match part {
-        BlockPart::Item(process) => step_if_fine(nest, network, table, state, *process),
+        BlockPart::Item(process) => step_if_fine(fitting, table, state, *process),
         BlockPart::Repeat(count, body) => {
-            step_over_copies(nest, network, table, state, *count, body.parts.as_slice())
+            step_over_copies(fitting, table, state, *count, body.parts.as_slice())
         }
     }
 }
@@ -359,23 +349,21 @@ fn step_over_part(
 // The same of so many copies of these parts.
 #[cycle(stepping)]
 fn step_over_copies(
-    nest: &Nest,
-    network: &Network,
+    fitting: &Fitting,
     table: &SourceTable,
     state: &mut TagState,
     count: u32,
     parts: &[BlockPart<u32>],
 ) -> Result<bool, AllocError>
-    requires fits { FitsNest nest.now network.now }
-    requires table { table.now.of ≡ sources_of nest.now }
-    requires state { IsTagState (net_of network.now) state.old }
-    ensures state { OnOk result (IsTagState (net_of network.now) state.new) }
+    requires table { table.now.of ≡ sources_of fitting.now.nest.now }
+    requires state { IsTagState (net_of fitting.now.network.now) state.old }
+    ensures state { OnOk result (IsTagState (net_of fitting.now.network.now) state.new) }
     ensures fine { IfOk result (λ fine. IsTrue fine
-        → LeadsTo nest.now (net_of network.now) (repeated count (parts_expansion parts.now))
-        state.old state.new) }
+        → LeadsTo fitting.now.nest.now (net_of fitting.now.network.now)
+        (repeated count (parts_expansion parts.now)) state.old state.new) }
 {
     for _ in 0..count {
-        if !step_over_parts(nest, network, table, state, parts)? {
+        if !step_over_parts(fitting, table, state, parts)? {
             return Ok(false);
         }
     }
@@ -385,73 +373,62 @@ fn step_over_copies(
 // What is wrong with a schedule that is kept folded, if anything is, found entry by entry.
 fn first_bad_entry(
     alloc: Global,
-    nest: &Nest,
-    points: &Points,
-    network: &Network,
+    fitting: &Fitting,
     table: &SourceTable,
     schedule: &Script<u32>,
 ) -> Result<Option<Refusal>, AllocError>
-    requires points { points.now.of ≡ points_of nest.now }
-    requires fits { FitsNest nest.now network.now }
-    requires numbers { FitsNumbers (net_of network.now) }
-    requires table { table.now.of ≡ sources_of nest.now }
+    requires { table.now.of ≡ sources_of fitting.now.nest.now }
     ensures { IfOk result
-        (λ refusal. refusal ≡ schedule_refusal nest.now network.now schedule.now) }
+        (λ refusal. refusal
+        ≡ schedule_refusal fitting.now.nest.now fitting.now.network.now schedule.now) }
 {
-    let mut state = TagState::new(alloc, network)?;
+    let mut state = TagState::new(alloc, fitting)?;
     let mut entry: u32 = 0;
     for process in schedule.iter() {
-        if !step_if_fine(nest, network, table, &mut state, process)? {
-            return Ok(judge(nest, points, network, table, &state, entry, process));
+        if !step_if_fine(fitting, table, &mut state, process)? {
+            return Ok(judge(fitting, table, &state, entry, process));
         }
         entry += 1;
     }
-    Ok(unended(network, &state))
+    Ok(unended(fitting.network, &state))
 }
 
 // The same. Where the schedule's blocks tell that all entries are fine, none is sought.
 fn folded_refusal(
     alloc: Global,
-    nest: &Nest,
-    points: &Points,
-    network: &Network,
+    fitting: &Fitting,
     table: &SourceTable,
     schedule: &Script<u32>,
 ) -> Result<Option<Refusal>, AllocError>
-    requires points { points.now.of ≡ points_of nest.now }
-    requires fits { FitsNest nest.now network.now }
-    requires numbers { FitsNumbers (net_of network.now) }
-    requires table { table.now.of ≡ sources_of nest.now }
+    requires { table.now.of ≡ sources_of fitting.now.nest.now }
     ensures { IfOk result
-        (λ refusal. refusal ≡ schedule_refusal nest.now network.now schedule.now) }
+        (λ refusal. refusal
+        ≡ schedule_refusal fitting.now.nest.now fitting.now.network.now schedule.now) }
 {
-    let mut state = TagState::new(alloc, network)?;
+    let mut state = TagState::new(alloc, fitting)?;
     let parts = schedule.blocks().parts.as_slice();
-    if step_over_parts(nest, network, table, &mut state, parts)? {
-        return Ok(unended(network, &state));
+    if step_over_parts(fitting, table, &mut state, parts)? {
+        return Ok(unended(fitting.network, &state));
     }
     drop(state);
-    first_bad_entry(alloc, nest, points, network, table, schedule)
+    first_bad_entry(alloc, fitting, table, schedule)
 }
 
 // The first entry of the schedule that is refused, and else the least process that it leaves unended, if there is one.
 pub(crate) fn schedule_refusal(
     alloc: Global,
-    nest: &Nest,
-    points: &Points,
-    network: &Network,
+    fitting: &Fitting,
     table: &SourceTable,
     schedule: &Schedule,
 ) -> Result<Option<Refusal>, AllocError>
-    requires points { points.now.of ≡ points_of nest.now }
-    requires fits { FitsNest nest.now network.now }
-    requires numbers { FitsNumbers (net_of network.now) }
-    requires table { table.now.of ≡ sources_of nest.now }
+    requires { table.now.of ≡ sources_of fitting.now.nest.now }
     ensures { IfOk result
-        (λ refusal. refusal ≡ schedule_refusal nest.now network.now (entries_in schedule.now)) }
+        (λ refusal. refusal
+        ≡ schedule_refusal fitting.now.nest.now fitting.now.network.now
+        (entries_in schedule.now)) }
 {
     match schedule {
-        Schedule::Listed(entries) => listed_refusal(alloc, nest, points, network, table, *entries),
-        Schedule::Folded(script) => folded_refusal(alloc, nest, points, network, table, *script),
+        Schedule::Listed(entries) => listed_refusal(alloc, fitting, table, *entries),
+        Schedule::Folded(script) => folded_refusal(alloc, fitting, table, *script),
     }
 }

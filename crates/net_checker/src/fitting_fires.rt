@@ -1,15 +1,15 @@
 //! Whether the fires of a process are right, by the blocks of its script.
 ghost use Rattle.std.specs.Prelude.{◌≡◌, ◌<◌, length};
 ghost use Rattle.std.specs.List.{list_all};
-ghost use Rattle.sanlp.specs.Points.{points_of};
 ghost use Rattle.net_core.specs.Machine.{net_of};
 ghost use Rattle.net_checker.specs.Firings.{is_within};
 ghost use Rattle.net_checker.specs.FittingFires.{fires_fit, fits_reads, puts_first};
 ghost use Rattle.script_blocks.specs.Expansion.{part_expansion, parts_expansion};
 
+use crate::candidate::Candidate;
 use crate::parts::{reads_of, script_of, slots_of, turns_of};
 use net_core::{Event, Network, Ref, Refs, fire_count};
-use sanlp::{Nest, Points};
+use sanlp::Nest;
 use script_blocks::{BlockPart, Script};
 
 // Whether a reference is `Zero` or a slot that is there.
@@ -92,13 +92,14 @@ fn puts_first(script: &Script<Event>) -> bool
 }
 
 /// Whether all Fires of a process fit its reads, there is one for each of its points, and no Put stands before the first.
-pub(crate) fn fires_fit(nest: &Nest, points: &Points, network: &Network, process: u32) -> bool
-    requires points { points.now.of ≡ points_of nest.now }
-    requires process { process < length network.now.processes }
-    ensures { result ≡ fires_fit nest.now (net_of network.now) process }
+pub(crate) fn fires_fit(candidate: &Candidate, process: u32) -> bool
+    requires { process < length candidate.now.network.now.processes }
+    ensures { result
+        ≡ fires_fit candidate.now.nest.now (net_of candidate.now.network.now) process }
 {
-    let script = script_of(network, process);
-    parts_fit(nest, network, process, script.blocks().parts.as_slice())
-        && fire_count(script) as usize == turns_of(points, process)
+    let script = script_of(candidate.network, process);
+    let parts = script.blocks().parts.as_slice();
+    parts_fit(candidate.nest, candidate.network, process, parts)
+        && fire_count(script) as usize == turns_of(candidate.points, process)
         && !puts_first(script)
 }

@@ -4,6 +4,7 @@
 //! and none of them is refused. Its queues and slots take memory for what is in them.
 #![tactic(auto)]
 
+mod candidate;
 mod checker;
 mod classes;
 mod entries;

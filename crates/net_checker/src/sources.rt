@@ -1,4 +1,4 @@
-ghost use Rattle.std.specs.Prelude.{◌≡◌, ◌+◌, ◌<◌, ◌≤◌, ◌*◌, ◌++◌, ℕ, ℤ, List, [], ◌∷◌, Option, None, Some, length, map, slice_get, slice_index_or, true, IsTrue, IfOk, IfSome};
+ghost use Rattle.std.specs.Prelude.{◌≡◌, ◌+◌, ◌+ℤ◌, ◌-ℤ◌, ◌<◌, ◌≤◌, ◌*◌, ◌++◌, ℕ, ℤ, List, [], ◌∷◌, Option, None, Some, length, map, slice_get, slice_index_or, true, IsTrue, IfOk, IfSome};
 ghost use Rattle.std.specs.List.{list_all, range_with_len};
 ghost use Rattle.std.specs.Option.{option_and_then, option_copied};
 ghost use Rattle.sanlp.specs.Access.{read_count};
@@ -12,10 +12,11 @@ ghost use Rattle.source_tree.specs.Sources.{read_number, read_sources, sources_o
 ghost use Rattle.source_tree.specs.Systems.{read_at};
 ghost use Rattle.net_checker.specs.Shapes.{read_total};
 ghost use Rattle.net_checker.specs.Sources.{first_overflow, origin_refusal, reads_refusal, source_refusal, tree_refusal};
-ghost use Rattle.net_checker.specs.Tables.{is_tree, AreInOrder, AreTold, GivesTag, IsAhead};
+ghost use Rattle.net_checker.specs.Tables.{is_tree, AreInOrder, AreTold, GivesTag, GoesOn, IsAhead, IsEvenRow, IsStep};
 ghost use Rattle.source_tree.specs.declared.tree.Tree.{Tree};
 ghost use Rattle.tree_eval.specs.Stretches.{IsStretchOf};
 
+use crate::candidate::Candidate;
 use crate::parts::{reads_of, turns_of};
 use crate::verdict::Refusal;
 use affine_core::Vector;
@@ -138,16 +139,14 @@ impl Paces {
 }
 
 // The tag of the entry whose point was found, or none where zero was.
-fn tag_of(nest: &Nest, points: &Points, found: &Found, paces: &mut Paces) -> Option<Tag>
-    requires size { SizeIsOk nest.now }
-    requires points { points.now.of ≡ points_of nest.now }
-    requires writer { (writer : Option ℕ) × IsPointOf (trace nest.now) writer found.now }
-    ensures { (writer : Option ℕ) → IsPointOf (trace nest.now) writer found.now
-        → result ≡ option_and_then (tag_at (trace nest.now)) writer }
+fn tag_of(candidate: &Candidate, found: &Found, paces: &mut Paces) -> Option<Tag>
+    requires { (writer : Option ℕ) × IsPointOf (trace candidate.now.nest.now) writer found.now }
+    ensures { (writer : Option ℕ) → IsPointOf (trace candidate.now.nest.now) writer found.now
+        → result ≡ option_and_then (tag_at (trace candidate.now.nest.now)) writer }
 {
     match found {
         Found::At(point) => {
-            let vectors = vectors_of(points, point.statement);
+            let vectors = vectors_of(candidate.points, point.statement);
             paces.choose(point.statement);
             let (guess, second) = (paces.pace.guess(), paces.pace.second_guess());
             let turn = turn_of(vectors, &point.at, guess, second)?;
@@ -192,12 +191,13 @@ fn guessed_tag(points: &Points, follower: &Follower, at: &Vector, pace: &Pace) -
     }
 }
 
-// Tags of one statement that are known of the turns that come next.
+// Tags of one statement that are known of the turns that come next: so many are left, which go on by a step from turn to turn.
 #[derive(Clone, Copy)]
 struct ToldTags {
     statement: u32,
     next: u32,
-    end: u32,
+    step: u32,
+    left: u32,
 }
 
 impl ToldTags {
@@ -209,13 +209,14 @@ impl ToldTags {
         ToldTags {
             statement: 0,
             next: 0,
-            end: 0,
+            step: 0,
+            left: 0,
         }
     }
 
     // How many there are.
     fn count(&self) -> u32 {
-        self.end.saturating_sub(self.next)
+        self.left
     }
 
     // Takes the tag of the next turn, if it is known.
@@ -228,14 +229,20 @@ impl ToldTags {
             (turn : ℕ) → AreTold points tree vectors turn self.old
             → AreTold points tree vectors (turn + 1) self.new }
     {
-        if self.next >= self.end {
+        if self.left == 0 {
             return None;
         }
         let tag = Tag {
             process: self.statement,
             turn: self.next,
         };
-        self.next += 1;
+        match self.next.checked_add(self.step) {
+            Some(next) => {
+                self.next = next;
+                self.left -= 1;
+            }
+            None => self.left = 0,
+        }
         Some(tag)
     }
 }
@@ -260,14 +267,19 @@ fn is_ahead(vector: &Vector, other: &Vector, by: u32) -> bool
 }
 
 // Whether the vector so many turns later is so much ahead.
-fn goes_on(vectors: &[Vector], turn: usize, by: u32) -> bool {
-    match (
-        vectors.get(turn),
-        vectors.get(turn.wrapping_add(by as usize)),
-    ) {
-        (Some(vector), Some(later)) => is_ahead(vector, later, by),
-        _ => false,
-    }
+fn goes_on(vectors: &[Vector], turn: usize, by: u32) -> bool
+    ensures { IsTrue result → GoesOn vectors.now turn by }
+{
+    let Some(place) = turn.checked_add(by as usize) else {
+        return false;
+    };
+    let Some(vector) = vectors.get(turn) else {
+        return false;
+    };
+    let Some(later) = vectors.get(place) else {
+        return false;
+    };
+    is_ahead(vector, later, by)
 }
 
 // How many vectors behind this one go on along the innermost loop, which may be as many as this. They are sought in steps that
@@ -297,40 +309,118 @@ fn row_length(vectors: &[Vector], turn: usize, guess: u32) -> u32 {
     length
 }
 
-// The tags of a row of so many turns, from this turn on, if a tree is known to give them. The reader's row and the writer's
-// both go on by 1 from turn to turn: their vectors stand in order, so where the last is as far ahead as it stands behind the
-// first, so is each between them. So the tree is asked at both ends alone.
+// Whether two numbers are as far apart as two others.
+fn is_as_far(from: i64, second: i64, at: i64, after: i64) -> bool
+    ensures { IsTrue result → after ≡ at +ℤ (second -ℤ from) }
+{
+    let Some(step) = second.checked_sub(from) else {
+        return false;
+    };
+    let Some(sum) = at.checked_add(step) else {
+        return false;
+    };
+    sum == after
+}
+
+// Whether two vectors are as far apart as two others, number by number.
+fn is_step(from: &[i64], second: &[i64], at: &[i64], after: &[i64]) -> bool
+    ensures { IsTrue result → IsStep from.now second.now at.now after.now }
+{
+    if second.len() != from.len() || at.len() != from.len() || after.len() != from.len() {
+        return false;
+    }
+    for k in 0..from.len() {
+        if !is_as_far(from[k], second[k], at[k], after[k]) {
+            return false;
+        }
+    }
+    true
+}
+
+// Whether the vectors at so many places behind this one, each by a step from the last, are as far apart from each to the next.
+fn is_stepped_row(vectors: &[Vector], first: usize, step: usize, length: u32) -> bool
+    ensures { IsTrue result → IsEvenRow vectors.now first step length }
+{
+    let Some(second_place) = first.checked_add(step) else {
+        return false;
+    };
+    let Some(first_vector) = vectors.get(first) else {
+        return false;
+    };
+    let Some(second_vector) = vectors.get(second_place) else {
+        return false;
+    };
+    let from = first_vector.as_slice();
+    let second = second_vector.as_slice();
+    if second.len() != from.len() {
+        return false;
+    }
+    let mut place = first;
+    for _ in 0..length {
+        let Some(next) = place.checked_add(step) else {
+            return false;
+        };
+        let Some(here) = vectors.get(place) else {
+            return false;
+        };
+        let Some(there) = vectors.get(next) else {
+            return false;
+        };
+        let at = here.as_slice();
+        let after = there.as_slice();
+        if !is_step(from, second, at, after) {
+            return false;
+        }
+        place = next;
+    }
+    true
+}
+
+// Whether a statement's vectors go on evenly from this turn on, for so many steps of so many turns. Where the step is 1, the
+// last vector alone tells it: vectors stand in order, so where it is as far ahead as it stands behind the first, so is each
+// between them.
+fn is_even_row(candidate: &Candidate, statement: u32, first: u32, step: u32, length: u32) -> bool
+    ensures { IsTrue result
+        → IsEvenRow (slice_index_or candidate.now.points.now.of statement []) first step length }
+{
+    let Some(vectors) = candidate.points.of.get(statement as usize) else {
+        return false;
+    };
+    if step == 1 {
+        return goes_on(vectors.as_slice(), first as usize, length);
+    }
+    is_stepped_row(vectors.as_slice(), first as usize, step as usize, length)
+}
+
+// The tags of a row of so many turns, from this turn on, if a tree is known to give them. The reader's row goes on by 1 from
+// turn to turn, and the writer's by the usual step, with the same differences. So the tree is asked at both ends alone.
 fn row_tags(
-    nest: &Nest,
-    points: &Points,
+    candidate: &Candidate,
     follower: &Follower,
     statement: u32,
     turn: usize,
     length: u32,
     pace: &Pace,
 ) -> Option<ToldTags>
-    requires points { points.now.of ≡ points_of nest.now }
-    requires known { (tree : Tree) × IsStretchOf tree follower.now }
+    requires { (tree : Tree) × IsStretchOf tree follower.now }
     ensures { IfSome result
         (λ told. (tree : Tree) → IsStretchOf tree follower.now
-        → AreTold points.now.of tree (slice_index_or points.now.of statement []) turn told) }
+        → AreTold candidate.now.points.now.of tree
+        (slice_index_or candidate.now.points.now.of statement []) turn told) }
 {
-    let _ = nest;
     let next = u32::try_from(pace.guess()).ok()?;
-    let last = next.checked_add(length)?;
-    let end = last.checked_add(1)?;
+    let step = u32::try_from(pace.step).ok()?;
+    let last = next.checked_add(length.checked_mul(step)?)?;
+    let left = length.checked_add(1)?;
     let last_turn = turn.checked_add(length as usize)?;
-    let first_at = vector_of_turn(points, statement, turn)?;
-    let last_at = vector_of_turn(points, statement, last_turn)?;
-    let first_there = vector_of_turn(points, pace.statement, next as usize)?;
-    let last_there = vector_of_turn(points, pace.statement, last as usize)?;
+    let first_at = vector_of_turn(candidate.points, statement, turn)?;
+    let last_at = vector_of_turn(candidate.points, statement, last_turn)?;
+    let first_there = vector_of_turn(candidate.points, pace.statement, next as usize)?;
+    let last_there = vector_of_turn(candidate.points, pace.statement, last as usize)?;
     if length == 0 {
         return None;
     }
     if !is_ahead(first_at, last_at, length) {
-        return None;
-    }
-    if !is_ahead(first_there, last_there, length) {
         return None;
     }
     if !follower.tells(first_at, pace.statement, first_there.as_slice()) {
@@ -339,38 +429,38 @@ fn row_tags(
     if !follower.tells(last_at, pace.statement, last_there.as_slice()) {
         return None;
     }
+    if !is_even_row(candidate, pace.statement, next, step, length) {
+        return None;
+    }
     Some(ToldTags {
         statement: pace.statement,
         next,
-        end,
+        step,
+        left,
     })
 }
 
 // The tags of the row that this turn is in, from this turn on, as far as they are known, where they are sought. The row may
 // be as long as is said.
 fn later_tags(
-    nest: &Nest,
-    points: &Points,
+    candidate: &Candidate,
     follower: &Follower,
     statement: u32,
     turn: usize,
     pace: &Pace,
     sought: Option<u32>,
 ) -> ToldTags
-    requires points { points.now.of ≡ points_of nest.now }
-    requires statement { statement < length points.now.of }
+    requires statement { statement < length candidate.now.points.now.of }
     requires known { (tree : Tree) × IsStretchOf tree follower.now }
     ensures { (tree : Tree) → IsStretchOf tree follower.now
-        → AreTold points.now.of tree (slice_index_or points.now.of statement []) turn result }
+        → AreTold candidate.now.points.now.of tree
+        (slice_index_or candidate.now.points.now.of statement []) turn result }
 {
     let Some(guess) = sought else {
         return ToldTags::none();
     };
-    if pace.step != 1 {
-        return ToldTags::none();
-    }
-    let length = row_length(vectors_of(points, statement), turn, guess);
-    match row_tags(nest, points, follower, statement, turn, length, pace) {
+    let length = row_length(vectors_of(candidate.points, statement), turn, guess);
+    match row_tags(candidate, follower, statement, turn, length, pace) {
         Some(told) => told,
         None => ToldTags::none(),
     }
@@ -379,25 +469,24 @@ fn later_tags(
 // Adds the sources of a read by its checked tree, as long as the tree doesn't overflow. Where it does, tells the first
 // such point.
 fn add_sources(
-    nest: &Nest,
-    points: &Points,
+    candidate: &Candidate,
     statement: u32,
     tree: &Tree,
     sources: &mut Items<Option<Tag>>,
 ) -> Result<Option<Rule>, AllocError>
-    requires size { SizeIsOk nest.now }
-    requires points { points.now.of ≡ points_of nest.now }
-    requires statement { statement < length nest.now.statements }
-    requires checked { (k : ℕ) × IsChecked nest.now statement k tree.now }
+    requires statement { statement < length candidate.now.nest.now.statements }
+    requires checked { (k : ℕ) × IsChecked candidate.now.nest.now statement k tree.now }
     requires empty { sources.old ≡ [] }
     ensures overflow { IfOk result
         (λ rule. rule
-        ≡ first_overflow tree.now (slice_index_or (points_of nest.now) statement [])) }
+        ≡ first_overflow tree.now (slice_index_or
+        (points_of candidate.now.nest.now) statement [])) }
     ensures sources { IfOk result
-        (λ rule. rule ≡ None → (k : ℕ) → IsChecked nest.now statement k tree.now
-        → sources.new ≡ read_sources nest.now (trace nest.now) statement k) }
+        (λ rule. rule ≡ None → (k : ℕ) → IsChecked candidate.now.nest.now statement k tree.now
+        → sources.new ≡ read_sources candidate.now.nest.now
+        (trace candidate.now.nest.now) statement k) }
 {
-    let vectors = vectors_of(points, statement);
+    let vectors = vectors_of(candidate.points, statement);
     let mut follower = Follower::new();
     let mut paces = Paces {
         pace: Pace::before(0),
@@ -411,12 +500,11 @@ fn add_sources(
             sources.push(Some(tag))?;
             continue;
         }
-        if let Some(tag) = guessed_tag(points, &follower, at, &paces.pace) {
+        if let Some(tag) = guessed_tag(candidate.points, &follower, at, &paces.pace) {
             paces.pace.note(tag.turn as usize);
             sources.push(Some(tag))?;
             told = later_tags(
-                nest,
-                points,
+                candidate,
                 &follower,
                 statement,
                 turn + 1,
@@ -430,7 +518,7 @@ fn add_sources(
         }
         sought = Some(length);
         match follower.eval(tree, at) {
-            Ok(found) => sources.push(tag_of(nest, points, &found, &mut paces))?,
+            Ok(found) => sources.push(tag_of(candidate, &found, &mut paces))?,
             Err(_) => return Ok(Some(Rule::Overflow(turn as u32))),
         }
     }
@@ -440,52 +528,49 @@ fn add_sources(
 // Why a tree is refused for this read, if it is. Where it isn't, the sources of the read are added.
 fn tree_refusal(
     alloc: Global,
-    nest: &Nest,
-    points: &Points,
+    candidate: &Candidate,
     statement: u32,
     read: u32,
     tree: &Tree,
     sources: &mut Items<Option<Tag>>,
 ) -> Result<Option<Rule>, AllocError>
-    requires size { SizeIsOk nest.now }
-    requires points { points.now.of ≡ points_of nest.now }
-    requires statement { statement < length nest.now.statements }
-    requires read { read < read_count nest.now statement }
+    requires statement { statement < length candidate.now.nest.now.statements }
+    requires read { read < read_count candidate.now.nest.now statement }
     requires empty { sources.old ≡ [] }
     ensures refusal { IfOk result
         (λ rule. rule
-        ≡ option_and_then (tree_refusal nest.now statement tree.now)
-        (read_at nest.now statement read)) }
+        ≡ option_and_then (tree_refusal candidate.now.nest.now statement tree.now)
+        (read_at candidate.now.nest.now statement read)) }
     ensures sources { IfOk result
         (λ rule. rule ≡ None
-        → sources.new ≡ read_sources nest.now (trace nest.now) statement read) }
+        → sources.new ≡ read_sources candidate.now.nest.now
+        (trace candidate.now.nest.now) statement read) }
 {
-    match check_tree(alloc, nest, statement, read, tree)? {
+    match check_tree(alloc, candidate.nest, statement, read, tree)? {
         TreeVerdict::Refused(rule) => Ok(Some(rule)),
-        TreeVerdict::Accepted => add_sources(nest, points, statement, tree, sources),
+        TreeVerdict::Accepted => add_sources(candidate, statement, tree, sources),
     }
 }
 
 // Why an origin is refused for this read, if it is. Where it isn't, the read's row is added, which is empty at Sweep.
 fn origin_refusal(
     alloc: Global,
-    nest: &Nest,
-    points: &Points,
+    candidate: &Candidate,
     statement: u32,
     read: u32,
     origin: &Origin,
     rows: &mut Items<Items<Option<Tag>>>,
 ) -> Result<Option<Refusal>, AllocError>
-    requires size { SizeIsOk nest.now }
-    requires points { points.now.of ≡ points_of nest.now }
-    requires statement { statement < length nest.now.statements }
-    requires read { read < read_count nest.now statement }
+    requires statement { statement < length candidate.now.nest.now.statements }
+    requires read { read < read_count candidate.now.nest.now statement }
     ensures refusal { IfOk result
-        (λ refusal. refusal ≡ origin_refusal nest.now statement read (Some origin.now)) }
+        (λ refusal. refusal ≡ origin_refusal candidate.now.nest.now statement read
+        (Some origin.now)) }
     ensures row { IfOk result
         (λ refusal. refusal ≡ None → is_tree origin.now ≡ true
         → rows.new
-        ≡ rows.old ++ read_sources nest.now (trace nest.now) statement read ∷ []) }
+        ≡ rows.old ++ read_sources candidate.now.nest.now
+        (trace candidate.now.nest.now) statement read ∷ []) }
 {
     match origin {
         Origin::Sweep => {
@@ -493,8 +578,11 @@ fn origin_refusal(
             Ok(None)
         }
         Origin::Tree(tree) => {
-            let mut row = Items::from_vec(Vec::with_capacity(alloc, turns_of(points, statement))?);
-            let refusal = tree_refusal(alloc, nest, points, statement, read, tree.get(), &mut row)?;
+            let mut row = Items::from_vec(Vec::with_capacity(
+                alloc,
+                turns_of(candidate.points, statement),
+            )?);
+            let refusal = tree_refusal(alloc, candidate, statement, read, tree.get(), &mut row)?;
             if let Some(rule) = refusal {
                 return Ok(Some(Refusal::Source(statement, read, rule)));
             }
@@ -508,32 +596,28 @@ fn origin_refusal(
 // has this number.
 fn reads_refusal(
     alloc: Global,
-    nest: &Nest,
-    points: &Points,
+    candidate: &Candidate,
     cert: &Cert,
     statement: u32,
     first: usize,
     rows: &mut Items<Items<Option<Tag>>>,
 ) -> Result<Option<Refusal>, AllocError>
-    requires size { SizeIsOk nest.now }
-    requires points { points.now.of ≡ points_of nest.now }
-    requires statement { statement < length nest.now.statements }
-    requires first { first ≡ read_number nest.now statement 0 }
+    requires statement { statement < length candidate.now.nest.now.statements }
+    requires first { first ≡ read_number candidate.now.nest.now statement 0 }
     requires small { first ≤ 8 * statement }
-    requires sources { length cert.now.sources ≡ read_total nest.now }
-    ensures refusal { IfOk result (λ refusal. refusal ≡ reads_refusal nest.now cert.now statement) }
+    requires sources { length cert.now.sources ≡ read_total candidate.now.nest.now }
+    ensures refusal { IfOk result
+        (λ refusal. refusal ≡ reads_refusal candidate.now.nest.now cert.now statement) }
     ensures rows { IfOk result
         (λ refusal. refusal ≡ None → IsTrue (list_all is_tree cert.now.sources)
         → rows.new ≡ rows.old
-        ++ map (read_sources nest.now (trace nest.now) statement)
-        (range_with_len 0 (read_count nest.now statement))) }
+        ++ map (read_sources candidate.now.nest.now (trace candidate.now.nest.now) statement)
+        (range_with_len 0 (read_count candidate.now.nest.now statement))) }
 {
-    for read in 0..reads_of(nest, statement) {
+    for read in 0..reads_of(candidate.nest, statement) {
         let origin = &cert.sources.as_slice()[first + read];
         let number = read as u32;
-        if let Some(refusal) = origin_refusal(
-            alloc, nest, points, statement, number, origin, rows,
-        )? {
+        if let Some(refusal) = origin_refusal(alloc, candidate, statement, number, origin, rows)? {
             return Ok(Some(refusal));
         }
     }
@@ -544,24 +628,22 @@ fn reads_refusal(
 /// the last writers of the read, and none where the origin is Sweep.
 pub(crate) fn source_refusal(
     alloc: Global,
-    nest: &Nest,
-    points: &Points,
+    candidate: &Candidate,
     cert: &Cert,
     rows: &mut Items<Items<Option<Tag>>>,
 ) -> Result<Option<Refusal>, AllocError>
-    requires size { SizeIsOk nest.now }
-    requires points { points.now.of ≡ points_of nest.now }
-    requires sources { length cert.now.sources ≡ read_total nest.now }
+    requires sources { length cert.now.sources ≡ read_total candidate.now.nest.now }
     requires empty { rows.old ≡ [] }
-    ensures refusal { IfOk result (λ refusal. refusal ≡ source_refusal nest.now cert.now) }
+    ensures refusal { IfOk result
+        (λ refusal. refusal ≡ source_refusal candidate.now.nest.now cert.now) }
     ensures rows { IfOk result
         (λ refusal. refusal ≡ None → IsTrue (list_all is_tree cert.now.sources)
-        → rows.new ≡ sources_of nest.now) }
+        → rows.new ≡ sources_of candidate.now.nest.now) }
 {
-    for statement in 0..nest.statements.len() {
-        let first = reads_before(nest, statement);
+    for statement in 0..candidate.nest.statements.len() {
+        let first = reads_before(candidate.nest, statement);
         let number = statement as u32;
-        if let Some(refusal) = reads_refusal(alloc, nest, points, cert, number, first, rows)? {
+        if let Some(refusal) = reads_refusal(alloc, candidate, cert, number, first, rows)? {
             return Ok(Some(refusal));
         }
     }

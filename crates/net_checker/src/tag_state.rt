@@ -5,14 +5,14 @@ ghost use Rattle.net_core.specs.declared.refs.Ref.{Ref};
 ghost use Rattle.net_core.specs.Machine.{enabled, net_of, next, start, step};
 ghost use Rattle.net_core.specs.Names.{tag};
 ghost use Rattle.net_core.specs.Rules.{tags};
-ghost use Rattle.net_core.specs.Shape.{FitsNumbers, IsWired};
 ghost use Rattle.net_checker.specs.SlotRows.{slots_in};
 ghost use Rattle.net_checker.specs.TagStates.{IsTagState, slot_lists, state_of};
 
+use crate::candidate::Fitting;
 use crate::parts::{capacity_of, writer_of};
 use crate::slots::Slots;
 use crate::turn_queue::TurnQueue;
-use net_core::{Event, Network, Process, Progress};
+use net_core::{Event, Network, Process, Progress, WiredNetwork};
 use sanlp::Tag;
 use std::alloc::{AllocError, Global};
 
@@ -99,15 +99,15 @@ fn fill_slot(
 
 impl TagState {
     /// The opening state, or want of memory.
-    pub(crate) fn new(alloc: Global, network: &Network) -> Result<TagState, AllocError>
-        requires wired { IsWired (net_of network.now) }
-        requires numbers { FitsNumbers (net_of network.now) }
-        ensures start { IfOk result (λ state. state_of (net_of network.now) state
-            ≡ start (net_of network.now)) }
-        ensures state { IfOk result (IsTagState (net_of network.now)) }
+    pub(crate) fn new(alloc: Global, fitting: &Fitting) -> Result<TagState, AllocError>
+        ensures start { IfOk result (λ state. state_of (net_of fitting.now.network.now) state
+            ≡ start (net_of fitting.now.network.now)) }
+        ensures state { IfOk result (IsTagState (net_of fitting.now.network.now)) }
     {
+        let network = fitting.network;
+        let wired = WiredNetwork { network };
         Ok(TagState {
-            progress: Progress::new(alloc, network)?,
+            progress: Progress::new(alloc, &wired)?,
             fires: vec![in alloc; 0; network.processes.len()]?,
             queues: empty_queues(alloc, network.channels.len())?,
             slots: all_slots(alloc, network.processes.as_slice())?,

@@ -22,3 +22,4 @@ pub mod Vectors
 pub mod Latest
 pub mod Scripts
 pub mod SinkLists
+pub mod SmallNetworks

@@ -2,7 +2,7 @@
 -- so a bit that is added at place n is added as bit * 2 ^ n, and leaves the digits below as they are. The rows of bytes
 -- past the references are all 0, so that a list of references has only one form: with it the fields can be compared in
 -- place of the lists. Nothing is said of the bytes themselves: that they give the slot back is known where they are made.
-use Rattle.std.proofs.Common.{◌≡◌, ◌∙◌, ℕ, zero, suc, ◌+◌, ◌*◌, ◌/◌, ◌%◌, ◌^◌, ◌<◌, ◌≤◌, List, [], ◌∷◌, ◌++◌, length, take, arith, ap, ap₂}
+use Rattle.std.proofs.Common.{◌≡◌, ◌∙◌, ℕ, zero, suc, ◌+◌, ◌*◌, ◌/◌, ◌%◌, ◌^◌, ◌<◌, ◌≤◌, List, [], ◌∷◌, ◌++◌, length, arith, ap, ap₂}
 use Rattle.std.proofs.Common.{sym, subst, refl, slice_set, slice_index_or, bit_and, bit_or, slice_get, Some}
 use Rattle.std.proofs.Common.{Bool, true, false, nat_eq, eqb-true}
 use Rattle.std.specs.Cmp.{both_ways}
@@ -189,12 +189,6 @@ IsPacked-slot a refs k slot row h is lt other value =
     ∙ ap (λ bit. Some (ref_of bit (slice_index_or a.slots k row))) none
     ∙ ap (λ n. Some (Slot n)) (sym value)
 
-refs_at-take : (n bits : ℕ) (rows : List (List ℕ)) → refs_at n bits (take n rows) ≡ refs_at n bits rows
-unfolding refs_at
-refs_at-take zero bits rows = refl
-refs_at-take (suc n) bits [] = refl
-refs_at-take (suc n) bits (row ∷ rows) = ap (λ refs. ref_of (bits % 2) row ∷ refs) (refs_at-take n (bits / 2) rows)
-
 -- a test that the references are the same where it says yes, and that says yes where the fields are
 pub IsPacked-same : (a b : Inside) (xs ys : List Ref) → IsPacked a → IsPacked b → refs_in a ≡ xs → refs_in b ≡ ys
     → (test : Bool) → (test ≡ true → refs_in a ≡ refs_in b) → (a ≡ b → test ≡ true) → test ≡ refs_eq xs ys
@@ -203,21 +197,16 @@ IsPacked-same a b xs ys ha hb is_xs is_ys test same told =
     (λ yes. subst (λ zs. refs_eq xs zs ≡ true) (sym is_xs ∙ same yes ∙ is_ys) (refs_equiv.refl xs))
     (λ yes. told (sym ha ∙ ap inside_of (is_xs ∙ refs_same xs ys yes ∙ sym is_ys) ∙ hb))
 
+-- a test of the slots, where the lengths and the bits are the same
 pub IsPacked-same_slots : (a b : Inside) (xs ys : List Ref) → IsPacked a → IsPacked b → refs_in a ≡ xs → refs_in b ≡ ys
-    → (used : ℕ) → used ≡ a.len → a.len ≡ b.len → nat_eq a.zeros b.zeros ≡ true
-    → pointwise (pointwise nat_eq) (take used a.slots) (take used b.slots) ≡ refs_eq xs ys
-IsPacked-same_slots a b xs ys ha hb is_xs is_ys used used_is len zeros =
-    let rows = pointwise_decides bytes_decides (take used a.slots) (take used b.slots) in
+    → a.len ≡ b.len → nat_eq a.zeros b.zeros ≡ true → pointwise (pointwise nat_eq) a.slots b.slots ≡ refs_eq xs ys
+IsPacked-same_slots a b xs ys ha hb is_xs is_ys len zeros =
+    let rows = pointwise_decides bytes_decides a.slots b.slots in
     let bits : a.zeros ≡ b.zeros = eqb-true a.zeros b.zeros zeros in
-    let same : take used a.slots ≡ take used b.slots → refs_in a ≡ refs_in b =
-    λ e. sym (refs_at-take a.len a.zeros a.slots)
-    ∙ ap (λ n. refs_at a.len a.zeros (take n a.slots)) (sym used_is)
-    ∙ ap (refs_at a.len a.zeros) e
-    ∙ (λ i. refs_at (len i) (bits i) (take ((used_is ∙ len) i) b.slots))
-    ∙ refs_at-take b.len b.zeros b.slots in
-    IsPacked-same a b xs ys ha hb is_xs is_ys (pointwise (pointwise nat_eq) (take used a.slots) (take used b.slots))
+    let same : a.slots ≡ b.slots → refs_in a ≡ refs_in b = λ e i. refs_at (len i) (bits i) (e i) in
+    IsPacked-same a b xs ys ha hb is_xs is_ys (pointwise (pointwise nat_eq) a.slots b.slots)
     (λ yes. same (rows.0 yes))
-    (λ e. rows.1 (ap (λ (x : Inside). take used x.slots) e))
+    (λ e. rows.1 (ap (λ (x : Inside). x.slots) e))
 
 pub IsPacked-other : (a b : Inside) (xs ys : List Ref) → IsPacked a → IsPacked b → refs_in a ≡ xs → refs_in b ≡ ys
     → (test : Bool) → test ≡ false → (a ≡ b → test ≡ true) → test ≡ refs_eq xs ys

@@ -199,7 +199,8 @@ module _ {T : Type 0} (n : Net) (v : Tag → T) (p : ℕ) (l : Local T) (named :
 
 -- What a state holds
 
-front_map_drop : {X T : Type 0} (v : X → T) (g : ℕ) (xs : List X)
+-- the first of what is left, under a function
+pub front_map_drop : {X T : Type 0} (v : X → T) (g : ℕ) (xs : List X)
     → front (map v (drop g xs)) ≡ option_map v (slice_get xs g)
 front_map_drop v zero [] = refl
 front_map_drop v (suc g) [] = refl

@@ -1,4 +1,10 @@
 -- The Puts of a channel in all scripts are those in its writer's.
+--
+-- In a wired network nobody but its writer puts to a channel. So of the scripts of the first so many processes
+-- those before the writer's have no such Put (`other_puts`), and from the writer's on each of its Puts is counted
+-- (`puts_of_writer`): by induction on how many scripts are counted. They are no more than the events of these
+-- scripts, which only grow in number (`puts_within`, `events_grow`), so where all events fit 32 bits the counts
+-- do. It is of scripts alone: whether a Put ever comes isn't asked.
 use Rattle.std.proofs.Common.{◌≡◌, ℕ, zero, suc, ◌+◌, ◌<◌, ◌≤◌, List, [], ◌∷◌, Bool, false, cond}
 use Rattle.std.proofs.Common.{Some, slice_get, count_by, refl, sym, ap, inl, inr, arith}
 use Rattle.std.proofs.lemmas.Bool.{cases_eq, cases_Bool}

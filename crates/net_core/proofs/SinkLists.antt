@@ -1,4 +1,9 @@
 -- The lists of the sinks, array by array.
+--
+-- The invariant along the declared arrays: the lists so far, with those of the arrays that are left, are the lists
+-- of all, and as many sinks are left as outputs. An output has the list of the next sink, so one list more is made
+-- and one sink fewer is left (`lists_printed`, `numbers_printed`). Any other array has the empty list and no sink
+-- (`lists_other`, `numbers_other`). What a sink has kept isn't looked at.
 use Rattle.std.proofs.Common.{◌≡◌, ◌+◌, ℕ, ℤ, Bool, true, false, cond, List, [], ◌∷◌, ◌++◌, length, drop}
 use Rattle.std.proofs.Common.{sym, ap, ◌∙◌, arith, append_assoc}
 use Rattle.sanlp.specs.declared.nest.ArrayDecl.{ArrayDecl}

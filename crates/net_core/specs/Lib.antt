@@ -13,3 +13,4 @@ pub mod Held
 pub mod Sound
 pub mod Progress
 pub mod Kinds
+pub mod OneProof

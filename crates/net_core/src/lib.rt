@@ -15,6 +15,7 @@ mod opening;
 mod progress;
 mod refs;
 mod room;
+mod wired_network;
 
 pub use event_counts::{event_count, fire_count, get_count, put_count};
 pub use firing::{Firing, Tags, Values};
@@ -27,3 +28,4 @@ pub use opening::start;
 pub use progress::Progress;
 pub use refs::{Ref, Refs};
 pub use room::Room;
+pub use wired_network::WiredNetwork;

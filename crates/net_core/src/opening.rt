@@ -1,12 +1,13 @@
 ghost use Rattle.std.specs.Prelude.{◌≡◌, ◌<◌, ◌≤◌, ◌+◌, ◌*◌, ◌^◌, ℕ, [], ◌∷◌, length, slice_index, count_by, IfOk, slice_get, Some};
 ghost use Rattle.net_core.specs.Machine.{net_of, start};
-ghost use Rattle.net_core.specs.Shape.{is_put, put_count, IsWired, IsShaped, FitsNumbers};
+ghost use Rattle.net_core.specs.Shape.{is_put, put_count, IsShaped, FitsNumbers};
 ghost use Rattle.script_blocks.specs.Expansion.{part_expansion, parts_expansion};
 ghost use Rattle.net_core.specs.Held.{held_of, run_of, IsFor, AreFresh, AreEmpty};
 
 use crate::machine::{Local, State};
 use crate::network::{Event, Network};
 use crate::room::Room;
+use crate::wired_network::WiredNetwork;
 use sanlp::Points;
 use script_blocks::{BlockPart, Script};
 use std::alloc::{AllocError, Global};
@@ -25,7 +26,8 @@ pub fn start<T: Copy>(
     ensures state { IfOk result (λ state. IsFor (net_of network.now) (held_of state)) }
 {
     let locals = fresh_locals(alloc, network, points)?;
-    let queues = empty_queues(alloc, network)?;
+    let wired = WiredNetwork { network };
+    let queues = empty_queues(alloc, &wired)?;
     Ok(State { locals, queues })
 }
 
@@ -114,30 +116,31 @@ fn count_puts(script: &Script<Event>, counts: &mut [u32])
 }
 
 // How many Puts each channel has.
-fn put_counts(alloc: Global, network: &Network) -> Result<Vec<u32>, AllocError>
-    requires wired { IsWired (net_of network.now) }
-    requires numbers { FitsNumbers (net_of network.now) }
-    ensures length { IfOk result (λ counts. length counts.items ≡ length network.now.channels) }
+fn put_counts(alloc: Global, wired: &WiredNetwork) -> Result<Vec<u32>, AllocError>
+    ensures length { IfOk result
+        (λ counts. length counts.items ≡ length wired.now.network.now.channels) }
     ensures counts { IfOk result
-        (λ counts. (c : ℕ) → c < length network.now.channels
-        → slice_index counts.items c ≡ put_count (net_of network.now) c) }
+        (λ counts. (c : ℕ) → c < length wired.now.network.now.channels
+        → slice_index counts.items c ≡ put_count (net_of wired.now.network.now) c) }
 {
-    let mut counts = vec![in alloc; 0; network.channels.len()]?;
-    for process in network.processes.as_slice() {
+    let mut counts = vec![in alloc; 0; wired.network.channels.len()]?;
+    for process in wired.network.processes.as_slice() {
         count_puts(&process.script, &mut counts);
     }
     Ok(counts)
 }
 
-fn empty_queues<T: Copy>(alloc: Global, network: &Network) -> Result<Vec<VecDeque<T>>, AllocError>
-    requires wired { IsWired (net_of network.now) }
-    requires numbers { FitsNumbers (net_of network.now) }
+fn empty_queues<T: Copy>(
+    alloc: Global,
+    wired: &WiredNetwork,
+) -> Result<Vec<VecDeque<T>>, AllocError>
     ensures { IfOk result
-        (λ queues. AreEmpty (net_of network.now) queues.items (length network.now.channels)) }
+        (λ queues. AreEmpty (net_of wired.now.network.now) queues.items
+        (length wired.now.network.now.channels)) }
 {
-    let counts = put_counts(alloc, network)?;
+    let counts = put_counts(alloc, wired)?;
     let mut queues = Vec::new(alloc);
-    for (at, channel) in network.channels.as_slice().iter().enumerate() {
+    for (at, channel) in wired.network.channels.as_slice().iter().enumerate() {
         let room = counts[at].min(channel.capacity);
         queues.push(VecDeque::with_capacity(alloc, room as usize)?)?;
     }

@@ -4,10 +4,10 @@ ghost use Rattle.std.specs.Prelude.{◌≡◌, ◌↔◌, ◌<◌, ◌+◌, ◌-
 ghost use Rattle.std.specs.Option.{option_copied};
 ghost use Rattle.net_core.specs.Cuts.{advanced, enabled_at, gets_at, opening, puts_at};
 ghost use Rattle.net_core.specs.Machine.{net_of};
-ghost use Rattle.net_core.specs.Shape.{FitsNumbers, IsWired};
 ghost use Rattle.net_core.specs.Progress.{CanCount, IsProgress, at_capacities, counts_after, cut_of, place_list, with_one_get, with_one_put};
 
 use crate::network::{Event, Network, Process};
+use crate::wired_network::WiredNetwork;
 use script_blocks::ScriptCursor;
 use std::alloc::{AllocError, Global};
 
@@ -96,12 +96,11 @@ fn count_token(counts: &mut [TokenCounts], event: &Event)
 
 impl Progress {
     /// No event yet. Nothing is refused but want of memory.
-    pub fn new(alloc: Global, network: &Network) -> Result<Progress, AllocError>
-        requires wired { IsWired (net_of network.now) }
-        requires numbers { FitsNumbers (net_of network.now) }
+    pub fn new(alloc: Global, wired: &WiredNetwork) -> Result<Progress, AllocError>
         ensures opening { IfOk result (λ progress. cut_of progress ≡ opening) }
-        ensures progress { IfOk result (IsProgress (net_of network.now)) }
+        ensures progress { IfOk result (IsProgress (net_of wired.now.network.now)) }
     {
+        let network = wired.network;
         Ok(Progress {
             positions: vec![in alloc; 0; network.processes.len()]?,
             cursors: first_cursors(alloc, network.processes.as_slice())?,

@@ -70,10 +70,7 @@ impl PartialEq for Refs {
     ghost laws = { refs_per };
 
     fn eq(&self, other: &Refs) -> bool {
-        let used = usize::from(self.len);
-        self.len == other.len
-            && self.zeros == other.zeros
-            && self.slots[..used] == other.slots[..used]
+        self.len == other.len && self.zeros == other.zeros && self.slots == other.slots
     }
 }
 

@@ -1,12 +1,19 @@
 -- What the events of blocks do, part by part and copy by copy.
-use Rattle.std.proofs.Common.{◌≡◌, ◌+◌, ◌<◌, ℕ, List, [], ◌∷◌, ◌++◌, length, map, take, get_or, sym, ap, ◌∙◌}
-use Rattle.std.proofs.Common.{append_assoc, append-nil}
+--
+-- The invariant is that behind `first`, what the list held before, stand the effects of the events so far, in
+-- their order. A part adds those of its own expansion, and a copy those of its body once more, so what stands
+-- there are the effects of an expansion again (`part_added`, `copy_added`). Equal events have equal effects: so
+-- from the second copy on nothing is worked out, and what the first copy added, between where the list ended
+-- before it and behind it, is put at the end once more (`first_copied`). What effects do to queues doesn't come
+-- in.
+use Rattle.std.proofs.Common.{◌≡◌, ◌+◌, ◌-◌, ◌<◌, ℕ, suc, List, [], ◌∷◌, ◌++◌, length, map, take, drop, get_or, sym, ap}
+use Rattle.std.proofs.Common.{◌∙◌, arith, append_assoc, append-nil}
 use Rattle.std.proofs.lemmas.Grind.{flat_map-append}
-use Rattle.std.proofs.lemmas.List.{map-append, take_more}
+use Rattle.std.proofs.lemmas.List.{drop_at, length-map, map-append, take_at, take_more}
 use Rattle.net_core.specs.declared.network.Event.{Event}
 use Rattle.script_blocks.specs.declared.blocks.BlockPart.{BlockPart}
 use Rattle.script_blocks.specs.Expansion.{part_expansion, parts_expansion, repeated}
-use Rattle.script_blocks.proofs.Repetitions.{repeated_more}
+use Rattle.script_blocks.proofs.Repetitions.{repeated_more, repeated_next}
 use Rattle.witness_plan.specs.Effects.{effect_of}
 use Rattle.witness_plan.specs.declared.effects.Effect.{Effect}
 
@@ -48,3 +55,19 @@ copy_added first old new i es before added =
 pub effects_as : (old new : List Effect) (es same : List Event) → es ≡ same → new ≡ old ++ map effect_of es
     → new ≡ old ++ map effect_of same
 effects_as old new es same is added = added ∙ ap (λ xs. old ++ map effect_of xs) is
+
+-- Some copies stand behind others. What the first one does is cut out of the list and put at its end.
+pub first_copied : (first old new : List Effect) (n : ℕ) (es : List Event) (start end : ℕ) → 0 < n
+    → old ≡ first ++ map effect_of (repeated n es) → start ≡ length first → end ≡ start + length es
+    → new ≡ old ++ take (end - start) (drop start old) → new ≡ old ++ map effect_of es
+first_copied first old new n es start end some are begins ends copied =
+    let one : n ≡ suc (n - 1) = omega arith in
+    let long : end - start ≡ length (map effect_of es) = omega (arith, length-map es effect_of) in
+    let rest = map effect_of (repeated (n - 1) es) in
+    let behind : drop start old ≡ map effect_of es ++ rest =
+    ap (drop start) are ∙ drop_at first (map effect_of (repeated n es)) start (sym begins)
+    ∙ ap (λ k. map effect_of (repeated k es)) one
+    ∙ ap (map effect_of) (repeated_next (n - 1) es) ∙ map-append effect_of es (repeated (n - 1) es) in
+    let cut : take (end - start) (drop start old) ≡ map effect_of es =
+    ap (take (end - start)) behind ∙ take_at (map effect_of es) rest (end - start) (sym long) in
+    copied ∙ ap (λ more. old ++ more) cut

@@ -1,4 +1,9 @@
 -- What other capacities leave as it is.
+--
+-- By induction on the channels their number stays, and so do both ends of each, whether the list of capacities is
+-- shorter than they are or longer (`reader_kept`, `writer_kept`). So to the machine only the capacities have
+-- changed (`net_kept`), and nothing by which a network is wired names a capacity (`wired_at`). What runs there are
+-- does change.
 use Rattle.std.proofs.Common.{◌≡◌, ℕ, zero, suc, List, [], ◌∷◌, length, slice_get, refl, sym, ap, ◌∙◌, subst}
 use Rattle.std.specs.Option.{option_map_or}
 use mathlib.Core.Path.{fun_ext}

@@ -1,4 +1,9 @@
 -- The schedule of a nest's network is a run under every policy, and ends all.
+--
+-- The sequential schedule is followed point by point (SequentialRun). Where one run that heeds no capacity ends
+-- all, no other can stop before, so the downward one ends all too (Downward). The capacities are the greatest
+-- lengths of the queues along the schedule itself, so with them it is a run still (NeverFull). That another
+-- schedule is a run with these capacities isn't said.
 use Rattle.std.proofs.Common.{◌≡◌, ℕ, List, length, take, sym, subst}
 use Rattle.std.specs.Prelude.{Result, Ok, Err, IfOk}
 use Rattle.net_core.specs.declared.network.Network.{Network}

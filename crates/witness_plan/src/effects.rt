@@ -53,9 +53,9 @@ fn effect_of(event: &Event) -> Effect
 
 // Adds what the events do for which these parts stand.
 #[cycle(adding)]
-fn add_parts(parts: &[BlockPart<Event>], effects: &mut Items<Effect>) -> Result<(), AllocError>
+fn add_parts(parts: &[BlockPart<Event>], effects: &mut Vec<Effect>) -> Result<(), AllocError>
     ensures { OnOk result
-        (effects.new ≡ effects.old ++ map effect_of (parts_expansion parts.now)) }
+        (effects.new.items ≡ effects.old.items ++ map effect_of (parts_expansion parts.now)) }
 {
     for part in parts {
         add_part(part, effects)?;
@@ -64,29 +64,38 @@ fn add_parts(parts: &[BlockPart<Event>], effects: &mut Items<Effect>) -> Result<
 }
 
 #[cycle(adding)]
-fn add_part(part: &BlockPart<Event>, effects: &mut Items<Effect>) -> Result<(), AllocError>
+fn add_part(part: &BlockPart<Event>, effects: &mut Vec<Effect>) -> Result<(), AllocError>
     ensures { OnOk result
-        (effects.new ≡ effects.old ++ map effect_of (part_expansion part.now)) }
+        (effects.new.items ≡ effects.old.items ++ map effect_of (part_expansion part.now)) }
 {
     match part {
-        BlockPart::Item(event) => effects.push(effect_of(event)),
+        BlockPart::Item(event) => {
+            effects.push(effect_of(event))?;
+            Ok(())
+        }
         BlockPart::Repeat(count, body) => add_copies(*count, body.parts.as_slice(), effects),
     }
 }
 
-// The same of so many copies of these parts.
+// The same of so many copies of these parts. What the first one does is copied.
 #[cycle(adding)]
 fn add_copies(
     count: u32,
     parts: &[BlockPart<Event>],
-    effects: &mut Items<Effect>,
+    effects: &mut Vec<Effect>,
 ) -> Result<(), AllocError>
     ensures { OnOk result
-        (effects.new
-        ≡ effects.old ++ map effect_of (repeated count (parts_expansion parts.now))) }
+        (effects.new.items
+        ≡ effects.old.items ++ map effect_of (repeated count (parts_expansion parts.now))) }
 {
-    for _ in 0..count {
-        add_parts(parts, effects)?;
+    if count == 0 {
+        return Ok(());
+    }
+    let start = effects.len();
+    add_parts(parts, effects)?;
+    let end = effects.len();
+    for _ in 1..count {
+        effects.extend_from_within(start..end)?;
     }
     Ok(())
 }
@@ -98,8 +107,7 @@ pub(crate) fn script_effects(
 ) -> Result<Items<Effect>, AllocError>
     ensures { IfOk result (λ effects. effects ≡ map effect_of script.now) }
 {
-    let room = Vec::with_capacity(alloc, script.len() as usize)?;
-    let mut effects = Items::from_vec(room);
+    let mut effects = Vec::with_capacity(alloc, script.len() as usize)?;
     add_parts(script.blocks().parts.as_slice(), &mut effects)?;
-    Ok(effects)
+    Ok(Items::from_vec(effects))
 }

@@ -3,12 +3,12 @@ ghost use Rattle.std.specs.Option.{option_copied};
 ghost use Rattle.net_core.specs.Cuts.{cut_after, opening};
 ghost use Rattle.net_core.specs.Machine.{net_of};
 ghost use Rattle.net_core.specs.Progress.{IsProgress, cut_of};
-ghost use Rattle.net_core.specs.Shape.{FitsNumbers, IsWired};
+ghost use Rattle.net_core.specs.Shape.{IsWired};
 ghost use Rattle.witness_plan.specs.Records.{IsOwn, IsRecord, IsThere, bound_after, lengths_after};
 ghost use Rattle.witness_plan.specs.Schedules.{highest_ready, is_ready};
 
 use crate::schedules::Witness;
-use net_core::{Event, Network, Progress};
+use net_core::{Event, Network, Progress, WiredNetwork};
 use plain_data::Items;
 use std::alloc::{AllocError, Global};
 
@@ -41,15 +41,13 @@ fn note_event(greatest: &mut [u32], network: &Network, progress: &Progress, even
 
 impl Recorder {
     /// No event yet.
-    pub(crate) fn new(alloc: Global, network: &Network) -> Result<Recorder, AllocError>
-        requires wired { IsWired (net_of network.now) }
-        requires numbers { FitsNumbers (net_of network.now) }
+    pub(crate) fn new(alloc: Global, wired: &WiredNetwork) -> Result<Recorder, AllocError>
         ensures schedule { IfOk result (λ recorder. recorder.schedule ≡ []) }
-        ensures recorder { IfOk result (IsRecord (net_of network.now)) }
+        ensures recorder { IfOk result (IsRecord (net_of wired.now.network.now)) }
     {
         let schedule = Items::new(alloc);
-        let progress = Progress::new(alloc, network)?;
-        let greatest = vec![in alloc; 0; network.channels.len()]?;
+        let progress = Progress::new(alloc, wired)?;
+        let greatest = vec![in alloc; 0; wired.network.channels.len()]?;
         Ok(Recorder {
             schedule,
             progress,

@@ -12,7 +12,7 @@ use crate::laws::schedule_runs;
 use crate::points::PointRun;
 use crate::recorder::{Recorder, bound_after};
 use fire_runs::trace_runs;
-use net_core::{Channel, Network};
+use net_core::{Channel, Network, WiredNetwork};
 use plain_data::Items;
 use process_derive::numbers_fit;
 use sanlp::{Nest, Points};
@@ -56,16 +56,16 @@ fn sequential(alloc: Global, nest: &Nest, network: &Network) -> Result<Witness, 
 
 // The schedule that takes at each state the highest-numbered process that is ready, with its capacities. After an event of
 // that process no higher one is ready but a Put's reader, so the search goes on from there.
-fn downward(alloc: Global, network: &Network) -> Result<Witness, AllocError>
-    requires wired { IsWired (net_of network.now) }
-    requires numbers { FitsNumbers (net_of network.now) }
+fn downward(alloc: Global, wired: &WiredNetwork) -> Result<Witness, AllocError>
     ensures schedule { IfOk result
-        (λ witness. witness.schedule ≡ downward_schedule (net_of network.now)) }
+        (λ witness. witness.schedule ≡ downward_schedule (net_of wired.now.network.now)) }
     ensures capacities { IfOk result
         (λ witness. witness.capacities
-        ≡ capacities network.now (downward_schedule (net_of network.now))) }
+        ≡ capacities wired.now.network.now
+        (downward_schedule (net_of wired.now.network.now))) }
 {
-    let mut recorder = Recorder::new(alloc, network)?;
+    let network = wired.network;
+    let mut recorder = Recorder::new(alloc, wired)?;
     let mut below = network.processes.len() as u32;
     while let Some(process) = recorder.highest_ready(network, below) {
         let Some(event) = recorder.next_event(network, process) else {
@@ -96,9 +96,10 @@ pub fn plan_for(
 {
     schedule_runs(nest);
     numbers_fit(nest);
+    let wired = WiredNetwork { network };
     match policy {
         Policy::Seq => sequential(alloc, nest, network),
-        Policy::Down => downward(alloc, network),
+        Policy::Down => downward(alloc, &wired),
     }
 }
 

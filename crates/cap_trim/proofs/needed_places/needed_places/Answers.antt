@@ -12,7 +12,7 @@ use Rattle.cap_trim.proofs.needed_places.needed_places.Goals as goal
 
 pub loop-init : goal.loop-init
 loop-init c =
-    let n = net_of c.args.network.now in
+    let n = net_of c.args.wired.now.network.now in
     let none : c.in_ok-places.places.items ≡ replicate n.channels 0 =
     c.in_ok-places.ensures.items_if_clones_equal (λ y h. h) ∙ ap (λ k. replicate k 0) c.len.ensures in
     subst (λ (xs : List ℕ). IsRaised n xs c.in_ok-progress.progress) (sym none)
@@ -20,23 +20,23 @@ loop-init c =
 
 pub returns-then-has_ended : goal.returns-then-has_ended
 returns-then-has_ended c =
-    let n = net_of c.args.network.now in
+    let n = net_of c.args.wired.now.network.now in
     let run = subst (λ (xs : List ℕ). LeadsTo (at_capacities n xs) (cut_of c.loop.progress) (cut_of c.go_on.new.progress))
     c.deref.ensures.value c.go_on.ensures.run in
     let on = raised_on n c.loop.places.items c.loop.progress c.go_on.new.progress c.loop.invariant
     c.go_on.ensures.progress run in
-    raised_all n c.requires.wired c.loop.places.items c.go_on.new.progress on (c.has_ended.ensures.0 c.if-has_ended.true)
+    raised_all n c.args.wired.now.wired c.loop.places.items c.go_on.new.progress on (c.has_ended.ensures.0 c.if-has_ended.true)
 
 pub needing_place-requires-clause-stuck : goal.needing_place-requires-clause-stuck
 needing_place-requires-clause-stuck c =
-    let n = net_of c.args.network.now in
+    let n = net_of c.args.wired.now.network.now in
     let same : c.deref-in-loop.result.now ≡ c.deref.result.now = c.deref-in-loop.ensures.value ∙ sym c.deref.ensures.value in
     λ p. ap (λ (xs : List ℕ). enabled_at (at_capacities n xs) (cut_of c.go_on.new.progress) p) same
     ∙ c.go_on.ensures.stuck p
 
 pub loop-preserved : goal.loop-preserved
 loop-preserved c =
-    let n = net_of c.args.network.now in
+    let n = net_of c.args.wired.now.network.now in
     let places = c.loop.places.items in
     let channel = c.in-Some.channel in
     let run = subst (λ (xs : List ℕ). LeadsTo (at_capacities n xs) (cut_of c.loop.progress) (cut_of c.go_on.new.progress))
@@ -51,5 +51,5 @@ loop-preserved c =
     let changed : c.index_mut.result.now ≡ get_or places channel 0 =
     get_or_read places channel c.index_mut.result.now there c.index_mut.ensures.value 0 in
     subst (λ (x : ℕ). IsRaised n (set places channel (x + 1)) c.go_on.new.progress) (sym changed)
-    (raised_more n c.requires.wired places c.go_on.new.progress on channel c.in-Some.ensures.there
+    (raised_more n c.args.wired.now.wired places c.go_on.new.progress on channel c.in-Some.ensures.there
     (omega (arith, c.capacity_of.ensures, before)) needed)

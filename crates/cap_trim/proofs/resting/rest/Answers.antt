@@ -10,8 +10,8 @@ use Rattle.cap_trim.proofs.Turns.{at_listed}
 use Rattle.net_core.proofs.Fresh.{no_capacity}
 use Rattle.cap_trim.proofs.resting.rest.Goals as goal
 
-pub rest_at-requires-clause-capacities : goal.rest_at-requires-clause-capacities
-rest_at-requires-clause-capacities c =
+pub rest_at-requires : goal.rest_at-requires
+rest_at-requires c =
     ap length (c.deref.ensures.value ∙ c.in_ok-capacities.ensures)
     ∙ length-map c.args.network.now.channels (λ (channel : Channel). channel.capacity)
 

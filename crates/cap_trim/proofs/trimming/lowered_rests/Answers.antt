@@ -8,7 +8,7 @@ use Rattle.cap_trim.proofs.trimming.lowered_rests.Goals as goal
 
 pub loop-at-preserved : goal.loop-at-preserved
 loop-at-preserved c =
-    let n = net_of c.args.network.now in
+    let n = net_of c.args.wired.now.network.now in
     let at = c.loop-at.at in
     let own = c.args.capacities.now in
     let now = c.loop-at.capacities in

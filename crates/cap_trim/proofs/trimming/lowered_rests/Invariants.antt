@@ -9,7 +9,7 @@ use Rattle.cap_trim.proofs.trimming.lowered_rests.Given as goal
 abbrev pub invariant-loop-at : goal.invariant-loop-at
 invariant-loop-at l =
     record {
-      rests : l.rests ≡ map (λ c. rest (lowered_network (at_capacities (net_of l.network) l.fn.capacities) c))
+      rests : l.rests ≡ map (λ c. rest (lowered_network (at_capacities (net_of l.wired.network.now) l.fn.capacities) c))
           (range_with_len 0 l.at);
       same : l.capacities ≡ l.fn.capacities;
     }

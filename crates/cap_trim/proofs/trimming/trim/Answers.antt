@@ -11,8 +11,8 @@ use Rattle.cap_trim.specs.Rests.{least_run}
 use Rattle.cap_trim.proofs.TrimFits.{fits_trimmed, ok_both, places_stick, places_within, planned_wired}
 use Rattle.cap_trim.proofs.trimming.trim.Goals as goal
 
-pub least_capacities-requires-clause-wired : goal.least_capacities-requires-clause-wired
-least_capacities-requires-clause-wired c = planned_wired c.args.nest.now c.args.network.now c.requires.planned
+pub invariant_of-wired-clause-wired : goal.invariant_of-wired-clause-wired
+invariant_of-wired-clause-wired c = planned_wired c.args.nest.now c.args.network.now c.requires.planned
 
 pub returns-clause-within : goal.returns-clause-within
 returns-clause-within c =

@@ -10,12 +10,12 @@ use Rattle.cap_trim.proofs.trimming.trimmed_capacities.Goals as goal
 
 pub loop-channel-init : goal.loop-channel-init
 loop-channel-init c =
-    turned_none (net_of c.args.network.now) (no_capacity c.args.network.now) c.in_ok-capacities.capacities.items
-    (c.in_ok-capacities.ensures ∙ capacities_are c.args.network.now)
+    turned_none (net_of c.args.wired.now.network.now) (no_capacity c.args.wired.now.network.now) c.in_ok-capacities.capacities.items
+    (c.in_ok-capacities.ensures ∙ capacities_are c.args.wired.now.network.now)
 
 pub loop-channel-preserved : goal.loop-channel-preserved
 loop-channel-preserved c =
-    let n = net_of c.args.network.now in
+    let n = net_of c.args.wired.now.network.now in
     let channel = c.loop-channel.channel in
     let capacities = c.loop-channel.capacities in
     turned_more n channel capacities.items _ c.loop-channel.invariant (omega arith)
@@ -26,7 +26,7 @@ loop-channel-preserved c =
 
 pub returns : goal.returns
 returns c =
-    let last : c.loop-channel.channel ≡ length c.args.network.now.channels = omega arith in
-    turned_all (net_of c.args.network.now) c.loop-channel.capacities.items
-    (subst (λ m. HaveTurned (net_of c.args.network.now) m c.loop-channel.capacities.items) last
+    let last : c.loop-channel.channel ≡ length c.args.wired.now.network.now.channels = omega arith in
+    turned_all (net_of c.args.wired.now.network.now) c.loop-channel.capacities.items
+    (subst (λ m. HaveTurned (net_of c.args.wired.now.network.now) m c.loop-channel.capacities.items) last
     c.loop-channel.invariant)

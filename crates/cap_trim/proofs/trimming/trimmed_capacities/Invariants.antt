@@ -3,4 +3,4 @@ use Rattle.cap_trim.proofs.Turns.{HaveTurned}
 use Rattle.cap_trim.proofs.trimming.trimmed_capacities.Given as goal
 
 abbrev pub invariant-loop-channel : goal.invariant-loop-channel
-invariant-loop-channel l = HaveTurned (net_of l.network) l.channel l.capacities.items
+invariant-loop-channel l = HaveTurned (net_of l.wired.network.now) l.channel l.capacities.items

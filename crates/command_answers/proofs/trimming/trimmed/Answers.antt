@@ -5,8 +5,8 @@ use Rattle.net_core.specs.declared.network.Network.{Network}
 use Rattle.net_core.specs.Machine.{net_of}
 use Rattle.command_answers.proofs.trimming.trimmed.Goals as goal
 
-pub least_capacities-requires-clause-wired : goal.least_capacities-requires-clause-wired
-least_capacities-requires-clause-wired c = c.in_ok-network.ensures.sound.fits.shaped.wired
+pub invariant_of-wired-clause-wired : goal.invariant_of-wired-clause-wired
+invariant_of-wired-clause-wired c = c.in_ok-network.ensures.sound.fits.shaped.wired
 
 pub returns-clause-capacities : goal.returns-clause-capacities
 returns-clause-capacities c =

@@ -10,9 +10,9 @@ use Rattle.net_checker.proofs.classes.add_event.Goals as goal
 
 pub overflow_add-gets : goal.overflow_add-gets
 overflow_add-gets c =
-    let net = net_of c.args.network.now in
+    let net = net_of c.args.fitting.now.network.now in
     let p = c.args.process in
-    let place = c.requires.place in
+    let place = c.requires in
     let k = length place.before in
     let is = event_there net p c.args.event.now c.args.gets.now c.args.uses.now (slots_in c.args.slots.now) place
     ∙ ap Some c.in-Get.is in
@@ -20,50 +20,51 @@ overflow_add-gets c =
       arith,
       get_number net p place.first_gets place.first_uses c.args.gets.now c.args.uses.now
           (slots_in c.args.slots.now) k place.collected c.in-Get.channel c.in-Get.slot
-          c.requires.wired place.fresh is,
-      get_short net p k c.in-Get.channel c.in-Get.slot c.requires.wired c.requires.numbers is,
+          c.args.fitting.now.fits.shaped.wired place.fresh is,
+      get_short net p k c.in-Get.channel c.in-Get.slot c.args.fitting.now.fits.shaped.wired
+          c.args.fitting.now.numbers is,
     )
 
 pub bounds-gets-channel : goal.bounds-gets-channel
 bounds-gets-channel c =
-    let net = net_of c.args.network.now in
+    let net = net_of c.args.fitting.now.network.now in
     let p = c.args.process in
-    let place = c.requires.place in
+    let place = c.requires in
     let is = event_there net p c.args.event.now c.args.gets.now c.args.uses.now (slots_in c.args.slots.now) place
     ∙ ap Some c.in-Get.is in
     omega (
       arith,
-      c.requires.wired.get_channel p (length place.before) c.in-Get.channel c.in-Get.slot is,
+      c.args.fitting.now.fits.shaped.wired.get_channel p (length place.before) c.in-Get.channel c.in-Get.slot is,
       place.collected.gets_length,
     )
 
 pub bounds-gets-channel-in-Get : goal.bounds-gets-channel-in-Get
 bounds-gets-channel-in-Get c =
-    let net = net_of c.args.network.now in
+    let net = net_of c.args.fitting.now.network.now in
     let p = c.args.process in
-    let place = c.requires.place in
+    let place = c.requires in
     let is = event_there net p c.args.event.now c.args.gets.now c.args.uses.now (slots_in c.args.slots.now) place
     ∙ ap Some c.in-Get.is in
     omega (
       arith,
-      c.requires.wired.get_channel p (length place.before) c.in-Get.channel c.in-Get.slot is,
+      c.args.fitting.now.fits.shaped.wired.get_channel p (length place.before) c.in-Get.channel c.in-Get.slot is,
       place.collected.gets_length,
     )
 
 pub add_fire-requires : goal.add_fire-requires
 add_fire-requires c j got h =
-    let net = net_of c.args.network.now in
-    let place = c.requires.place in
+    let net = net_of c.args.fitting.now.network.now in
+    let place = c.requires in
     omega (
       arith,
-      (slots_got net c.requires.wired c.args.process (length place.before) j got
+      (slots_got net c.args.fitting.now.fits.shaped.wired c.args.process (length place.before) j got
           (ap (λ xs. slice_get xs j) (sym place.collected.slots_are) ∙ h)).0,
       place.collected.uses_length,
     )
 
 pub returns-in_ok-fill-in-Get : goal.returns-in_ok-fill-in-Get
 returns-in_ok-fill-in-Get c = λ place.
-    let net = net_of c.args.network.now in
+    let net = net_of c.args.fitting.now.network.now in
     let p = c.args.process in
     let k = length place.before in
     let is = event_there net p c.args.event.now c.args.gets.now c.args.uses.now (slots_in c.args.slots.now) place
@@ -73,11 +74,11 @@ returns-in_ok-fill-in-Get c = λ place.
     (rw c.in_ok-fill-in-Get.ensures
     (collected_get net p place.first_gets place.first_uses c.args.gets.now c.args.uses.now
     (slots_in c.args.slots.now) k place.collected c.in-Get.channel c.in-Get.slot _
-    c.requires.wired place.fresh is refl))
+    c.args.fitting.now.fits.shaped.wired place.fresh is refl))
 
 pub returns-in-Fire : goal.returns-in-Fire
 returns-in-Fire c =
-    let net = net_of c.args.network.now in
+    let net = net_of c.args.fitting.now.network.now in
     let p = c.args.process in
     on_ok_weaker c.add_fire.result
     (λ added place.
@@ -90,7 +91,7 @@ returns-in-Fire c =
 
 pub returns-in-Put : goal.returns-in-Put
 returns-in-Put c = λ place.
-    let net = net_of c.args.network.now in
+    let net = net_of c.args.fitting.now.network.now in
     let p = c.args.process in
     let k = length place.before in
     let is = event_there net p c.args.event.now c.args.gets.now c.args.uses.now (slots_in c.args.slots.now) place

@@ -6,9 +6,9 @@ use Rattle.net_checker.specs.SlotRows.{slots_in}
 use Rattle.net_checker.proofs.ChannelUses.{collected_gets, collected_none, collected_uses}
 use Rattle.net_checker.proofs.classes.add_events.Goals as goal
 
-pub add_parts-requires-clause-place : goal.add_parts-requires-clause-place
-add_parts-requires-clause-place c =
-    let net = net_of c.args.network.now in
+pub add_parts-requires : goal.add_parts-requires
+add_parts-requires c =
+    let net = net_of c.args.fitting.now.network.now in
     let p = c.args.process in
     let all : parts_expansion c.as_slice-parts.result.now ≡ net.script p =
     ap parts_expansion c.as_slice-parts.ensures ∙ c.blocks-2.ensures.stands ∙ c.script_of.ensures in
@@ -25,7 +25,7 @@ add_parts-requires-clause-place c =
 
 pub returns-clause-gets : goal.returns-clause-gets
 returns-clause-gets c =
-    let net = net_of c.args.network.now in
+    let net = net_of c.args.fitting.now.network.now in
     let p = c.args.process in
     let all : parts_expansion c.as_slice-parts.result.now ≡ net.script p =
     ap parts_expansion c.as_slice-parts.ensures ∙ c.blocks-2.ensures.stands ∙ c.script_of.ensures in
@@ -46,7 +46,7 @@ returns-clause-gets c =
 
 pub returns-clause-uses : goal.returns-clause-uses
 returns-clause-uses c =
-    let net = net_of c.args.network.now in
+    let net = net_of c.args.fitting.now.network.now in
     let p = c.args.process in
     let all : parts_expansion c.as_slice-parts.result.now ≡ net.script p =
     ap parts_expansion c.as_slice-parts.ensures ∙ c.blocks-2.ensures.stands ∙ c.script_of.ensures in

@@ -8,7 +8,7 @@ use Rattle.net_checker.proofs.classes.channel_uses.Goals as goal
 
 pub loop-process-preserved : goal.loop-process-preserved
 loop-process-preserved c =
-    let net = net_of c.args.network.now in
+    let net = net_of c.args.fitting.now.network.now in
     let p = c.loop-process.process in
     let gets = c.add_script.new.gets in
     let uses = c.add_script.new.uses in
@@ -23,7 +23,8 @@ loop-process-preserved c =
     written_back uses old_uses c.loop-process.uses.len (omega (arith, c.loop-process.uses.ok.0)) many_uses in
     below_as net p _ gets _ uses back_gets back_uses
     (
-    below_more net p old_gets gets old_uses uses c.requires.wired c.loop-process.invariant many_gets many_uses
+    below_more net p old_gets gets old_uses uses c.args.fitting.now.fits.shaped.wired c.loop-process.invariant
+    many_gets many_uses
     (λ d lt. c.in_ok-add_script.ensures.gets d lt
     ∙ ap (λ (xs : List ℕ). get_or xs d 0 + count_by (is_get d) (net.script p)) c.deref_mut.ensures.value)
     (λ d lt. c.in_ok-add_script.ensures.uses d lt

@@ -9,14 +9,16 @@ use Rattle.net_checker.proofs.entries.+stepping.Goals as goal
 pub step_over_copies-loop-init : goal.step_over_copies-loop-init
 step_over_copies-loop-init t c = record {
   state = c.requires.state;
-  leads = leads_nowhere c.args.nest.now (net_of c.args.network.now) (repeated 0 (parts_expansion c.args.parts.now))
+  leads = leads_nowhere c.args.fitting.now.nest.now (net_of c.args.fitting.now.network.now) (repeated 0
+      (parts_expansion c.args.parts.now))
       c.args.state.now (repeated_none (parts_expansion c.args.parts.now));
 }
 
 pub step_over_copies-loop-preserved : goal.step_over_copies-loop-preserved
 step_over_copies-loop-preserved t c = record {
   state = c.in_ok-step_over_parts.ensures.state;
-  leads = leads_copy c.args.nest.now (net_of c.args.network.now) c.loop.counter (parts_expansion c.args.parts.now)
+  leads = leads_copy c.args.fitting.now.nest.now (net_of c.args.fitting.now.network.now) c.loop.counter
+      (parts_expansion c.args.parts.now)
       c.args.state.now c.loop.state c.step_over_parts.new.state c.loop.invariant.leads
       (c.in_ok-step_over_parts.ensures.fine c.if-not-branch.false);
 }
@@ -24,8 +26,9 @@ step_over_copies-loop-preserved t c = record {
 pub step_over_part-returns-in-Repeat-clause-fine :
     goal.step_over_part-returns-in-Repeat-clause-fine
 step_over_part-returns-in-Repeat-clause-fine t c =
-    let n = c.args.nest.now in
-    let net = net_of c.args.network.now in
+    let fitting = c.args.fitting.now in
+    let n = fitting.nest.now in
+    let net = net_of fitting.network.now in
     let count = c.in-Repeat.count in
     let body = c.in-Repeat.body in
     let copies = repeated count (parts_expansion c.as_slice.result.now) in
@@ -40,7 +43,8 @@ step_over_part-returns-in-Repeat-clause-fine t c =
 pub step_over_parts-loop-part-preserved : goal.step_over_parts-loop-part-preserved
 step_over_parts-loop-part-preserved t c = record {
   state = c.in_ok-step_over_part.ensures.state;
-  leads = leads_part c.args.nest.now (net_of c.args.network.now) c.args.parts.now c.loop-part.part-index
+  leads = leads_part c.args.fitting.now.nest.now (net_of c.args.fitting.now.network.now) c.args.parts.now
+      c.loop-part.part-index
       c.part-item.result c.args.state.now c.loop-part.state c.step_over_part.new.state c.loop-part-test.true
       c.part-item.is c.loop-part.invariant.leads (c.in_ok-step_over_part.ensures.fine c.if-not-branch.false);
 }

@@ -7,5 +7,5 @@ abbrev pub invariant-loop-process : goal.invariant-loop-process
 invariant-loop-process l = record {
   whole : l.yielded ++ l.process-iterator ≡ l.schedule;
   number : l.entry ≡ length l.yielded;
-  walked : IsWalked l.nest (net_of l.network) l.schedule l.state l.entry;
+  walked : IsWalked l.fitting.nest.now (net_of l.fitting.network.now) l.schedule l.state l.entry;
 }

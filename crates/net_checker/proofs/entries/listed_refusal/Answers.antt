@@ -10,40 +10,46 @@ use Rattle.net_checker.proofs.entries.listed_refusal.Goals as goal
 
 pub loop-entry-init : goal.loop-entry-init
 loop-entry-init c =
-    walked_start c.args.nest.now (net_of c.args.network.now) c.args.schedule.now
+    let fitting = c.args.fitting.now in
+    walked_start fitting.nest.now (net_of fitting.network.now) c.args.schedule.now
     c.in_ok-state.state c.in_ok-state.ensures.start c.in_ok-state.ensures.state
 
 pub overflow_cast-entry : goal.overflow_cast-entry
 overflow_cast-entry c =
+    let fitting = c.args.fitting.now in
     omega (
       arith,
-      entry_short c.args.nest.now (net_of c.args.network.now) c.args.schedule.now
+      entry_short fitting.nest.now (net_of fitting.network.now) c.args.schedule.now
           c.loop-entry.state c.loop-entry.entry c.loop-entry.invariant,
     )
 
 pub returns-then-not-branch : goal.returns-then-not-branch
 returns-then-not-branch c =
-    let net = net_of c.args.network.now in
+    let fitting = c.args.fitting.now in
+    let net = net_of fitting.network.now in
     let loop = c.loop-entry in
     let process = get_or c.args.schedule.now c.loop-entry.entry 0 in
     let same = c.in_ok-step_if_fine.ensures.unchanged c.if-not-branch.true in
-    entry_wrong c.args.nest.now c.args.network.now c.args.schedule.now c.step_if_fine.new.state loop.entry
-    (walked_same c.args.nest.now net c.args.schedule.now loop.state c.step_if_fine.new.state loop.entry loop.invariant
+    entry_wrong fitting.nest.now fitting.network.now c.args.schedule.now c.step_if_fine.new.state loop.entry
+    (walked_same fitting.nest.now net c.args.schedule.now loop.state c.step_if_fine.new.state loop.entry
+    loop.invariant
     same) process c.judge.result
     (slice_get-get_or c.args.schedule.now loop.entry 0 (omega arith)) c.judge.ensures
     (λ fine. c.in_ok-step_if_fine.ensures.refused c.if-not-branch.true loop.entry
-    (ap (λ (s : TagState). entry_refusal c.args.nest.now net (cut_in s) loop.entry process) (sym same) ∙ fine))
+    (ap (λ (s : TagState). entry_refusal fitting.nest.now net (cut_in s) loop.entry process) (sym same) ∙ fine))
 
 pub loop-entry-preserved : goal.loop-entry-preserved
 loop-entry-preserved c =
+    let fitting = c.args.fitting.now in
     rw (add-one)
-    (walked_by c.args.nest.now (net_of c.args.network.now) c.args.schedule.now c.loop-entry.state
+    (walked_by fitting.nest.now (net_of fitting.network.now) c.args.schedule.now c.loop-entry.state
     c.step_if_fine.new.state c.loop-entry.entry c.loop-entry.invariant _
     (slice_get-get_or c.args.schedule.now c.loop-entry.entry 0 (omega arith))
     (c.in_ok-step_if_fine.ensures.fine c.if-not-branch.false) c.in_ok-step_if_fine.ensures.state)
 
 pub returns : goal.returns
 returns c =
+    let fitting = c.args.fitting.now in
     c.unended.ensures
-    ∙ at_end c.args.nest.now c.args.network.now c.args.schedule.now
+    ∙ at_end fitting.nest.now fitting.network.now c.args.schedule.now
     c.loop-entry.state c.loop-entry.entry c.loop-entry.invariant (omega arith)

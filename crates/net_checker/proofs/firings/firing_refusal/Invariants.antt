@@ -4,4 +4,5 @@ use Rattle.net_checker.specs.Firings.{process_firing}
 use Rattle.net_checker.proofs.firings.firing_refusal.Given as goal
 
 abbrev pub invariant-loop-process : goal.invariant-loop-process
-invariant-loop-process l = (q : ℕ) → q < l.process → process_firing l.nest (net_of l.network) q ≡ None
+invariant-loop-process l =
+    (q : ℕ) → q < l.process → process_firing l.candidate.nest.now (net_of l.candidate.network.now) q ≡ None

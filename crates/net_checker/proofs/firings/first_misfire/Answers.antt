@@ -17,7 +17,8 @@ loop-event-init c = record {
 
 pub returns-then-not-may_stand : goal.returns-then-not-may_stand
 returns-then-not-may_stand c =
-    let net = net_of c.args.network.now in
+    let candidate = c.args.candidate.now in
+    let net = net_of candidate.network.now in
     let p = c.args.process in
     let script = net.script p in
     let h = c.loop-event.invariant in
@@ -29,12 +30,13 @@ returns-then-not-may_stand c =
     ap (slice_get script) h.place
     ∙ next_item script c.loop-event.yielded c.loop-event.event-iterator h.whole e c.next.new.self
     c.in-Some.ensures.steps in
-    place_wrong c.args.nest.now net p c.loop-event.place c.loop-event.fired e (omega (arith, lt, h.place)) is h.fired
+    place_wrong candidate.nest.now net p c.loop-event.place c.loop-event.fired e (omega (arith, lt, h.place)) is h.fired
     (sym c.may_stand.ensures ∙ c.if-not-may_stand.true) h.fine
 
 pub loop-event-preserved : goal.loop-event-preserved
 loop-event-preserved c =
-    let net = net_of c.args.network.now in
+    let candidate = c.args.candidate.now in
+    let net = net_of candidate.network.now in
     let p = c.args.process in
     let script = net.script p in
     let h = c.loop-event.invariant in
@@ -55,13 +57,14 @@ loop-event-preserved c =
             (sym c.is_fire.ensures ∙ w.if-is_fire.false) w.fired-is
       ];
       fine = below_more _ _ h.fine
-          (event_fine c.args.nest.now net p k c.loop-event.fired (slice_get script k) e is h.fired
+          (event_fine candidate.nest.now net p k c.loop-event.fired (slice_get script k) e is h.fired
           (sym c.may_stand.ensures ∙ c.if-not-may_stand.false));
     }
 
 pub returns-then-fired-turns_of : goal.returns-then-fired-turns_of
 returns-then-fired-turns_of c =
-    let net = net_of c.args.network.now in
+    let candidate = c.args.candidate.now in
+    let net = net_of candidate.network.now in
     let p = c.args.process in
     let h = c.loop-event.invariant in
     let all =
@@ -69,27 +72,28 @@ returns-then-fired-turns_of c =
     let many = sym (h.place ∙ ap length all) in
     let fired = fired_all net p c.loop-event.place c.loop-event.fired many h.fired in
     ap (λ k. Some (Fires p k)) (sym many)
-    ∙ few_fires c.args.nest.now net p (λ j lt. h.fine j (omega (arith, many)))
+    ∙ few_fires candidate.nest.now net p (λ j lt. h.fine j (omega (arith, many)))
     (omega (
       arith,
       fired,
       c.turns_of.ensures
-          ∙ ap (λ (points : List (List (List ℤ))). turns points p) c.requires.points,
+          ∙ ap (λ (points : List (List (List ℤ))). turns points p) candidate.all_points,
     ))
 
 pub returns : goal.returns
 returns c =
-    let net = net_of c.args.network.now in
+    let candidate = c.args.candidate.now in
+    let net = net_of candidate.network.now in
     let p = c.args.process in
     let h = c.loop-event.invariant in
     let all =
     had_all (net.script p) c.loop-event.yielded c.loop-event.event-iterator h.whole c.in-None.ensures.steps.0 in
     let many = sym (h.place ∙ ap length all) in
     let fired = fired_all net p c.loop-event.place c.loop-event.fired many h.fired in
-    enough_fires c.args.nest.now net p (λ j lt. h.fine j (omega (arith, many)))
+    enough_fires candidate.nest.now net p (λ j lt. h.fine j (omega (arith, many)))
     (omega (
       arith,
       fired,
       c.turns_of.ensures
-          ∙ ap (λ (points : List (List (List ℤ))). turns points p) c.requires.points,
+          ∙ ap (λ (points : List (List (List ℤ))). turns points p) candidate.all_points,
     ))

@@ -6,9 +6,10 @@ use Rattle.net_checker.proofs.firings.first_misfire.Given as goal
 
 abbrev pub invariant-loop-event : goal.invariant-loop-event
 invariant-loop-event l = record {
-  whole : l.yielded ++ l.event-iterator ≡ (net_of l.network).script l.process;
+  whole : l.yielded ++ l.event-iterator ≡ (net_of l.candidate.network.now).script l.process;
   place : l.place ≡ length l.yielded;
-  fired : l.fired ≡ fires (net_of l.network) l.process l.place;
+  fired : l.fired ≡ fires (net_of l.candidate.network.now) l.process l.place;
   fine : (k : ℕ) → k < l.place
-      → event_firing l.nest (net_of l.network) l.process k (slice_get ((net_of l.network).script l.process) k) ≡ None;
+      → event_firing l.candidate.nest.now (net_of l.candidate.network.now) l.process k (slice_get
+      ((net_of l.candidate.network.now).script l.process) k) ≡ None;
 }

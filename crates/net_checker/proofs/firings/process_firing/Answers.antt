@@ -5,5 +5,6 @@ use Rattle.net_checker.proofs.firings.process_firing.Goals as goal
 
 pub returns-then-fires_fit : goal.returns-then-fires_fit
 returns-then-fires_fit c =
-    fitting_fires c.args.nest.now (net_of c.args.network.now) c.args.process
+    let candidate = c.args.candidate.now in
+    fitting_fires candidate.nest.now (net_of candidate.network.now) c.args.process
     (sym c.fires_fit.ensures ∙ c.if-fires_fit.true)

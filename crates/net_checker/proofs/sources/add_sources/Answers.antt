@@ -27,25 +27,33 @@ here vectors items f at same lt is =
 
 pub vectors_of-vectors-requires : goal.vectors_of-vectors-requires
 vectors_of-vectors-requires c =
-    omega (arith, c.requires.statement, points_length c.args.nest.now, ap length c.requires.points)
+    omega (
+      arith,
+      c.requires.statement,
+      points_length c.args.candidate.now.nest.now,
+      ap length
+          c.args.candidate.now.all_points,
+    )
 
 pub eval-requires-clause-ready : goal.eval-requires-clause-ready
 eval-requires-clause-ready c =
-    let n = c.args.nest.now in
+    let n = c.args.candidate.now.nest.now in
     let s = c.args.statement in
     let items = c.vectors_of-vectors.result.now in
-    let all = whole n s c.args.points.now.of items c.requires.points c.vectors_of-vectors.ensures in
+    let all = whole n s c.args.candidate.now.points.now.of items c.args.candidate.now.all_points
+    c.vectors_of-vectors.ensures in
     ready_at n s c.requires.checked.0 c.args.tree.now c.requires.checked.1 c.loop-turn.turn
     c.index-vectors-turn.result
     (here (get_or (points_of n) s []) items c.loop-turn.turn c.index-vectors-turn.result all c.loop-turn-test.true
     c.index-vectors-turn.is)
 
-pub tag_of-requires-clause-writer : goal.tag_of-requires-clause-writer
-tag_of-requires-clause-writer c =
-    let n = c.args.nest.now in
+pub tag_of-requires : goal.tag_of-requires
+tag_of-requires c =
+    let n = c.args.candidate.now.nest.now in
     let s = c.args.statement in
     let items = c.vectors_of-vectors.result.now in
-    let all = whole n s c.args.points.now.of items c.requires.points c.vectors_of-vectors.ensures in
+    let all = whole n s c.args.candidate.now.points.now.of items c.args.candidate.now.all_points
+    c.vectors_of-vectors.ensures in
     let g = given_at n s c.requires.checked.0 c.args.tree.now c.requires.checked.1 c.loop-turn.turn
     c.index-vectors-turn.result
     (here (get_or (points_of n) s []) items c.loop-turn.turn c.index-vectors-turn.result all c.loop-turn-test.true
@@ -55,18 +63,20 @@ tag_of-requires-clause-writer c =
 
 pub overflow_cast-result : goal.overflow_cast-result
 overflow_cast-result c =
-    let n = c.args.nest.now in
+    let n = c.args.candidate.now.nest.now in
     let s = c.args.statement in
-    let all = whole n s c.args.points.now.of c.vectors_of-vectors.result.now c.requires.points
+    let all = whole n s c.args.candidate.now.points.now.of c.vectors_of-vectors.result.now
+    c.args.candidate.now.all_points
     c.vectors_of-vectors.ensures in
-    omega (arith, few_vectors n s c.requires.size, ap length all)
+    omega (arith, few_vectors n s c.args.candidate.now.size, ap length all)
 
 pub returns-in-Err-clause-overflow : goal.returns-in-Err-clause-overflow
 returns-in-Err-clause-overflow c =
-    let n = c.args.nest.now in
+    let n = c.args.candidate.now.nest.now in
     let s = c.args.statement in
     let items = c.vectors_of-vectors.result.now in
-    let all = whole n s c.args.points.now.of items c.requires.points c.vectors_of-vectors.ensures in
+    let all = whole n s c.args.candidate.now.points.now.of items c.args.candidate.now.all_points
+    c.vectors_of-vectors.ensures in
     let vectors : List (List ℤ) = get_or (points_of n) s [] in
     let there = here vectors items c.loop-turn.turn c.index-vectors-turn.result all c.loop-turn-test.true
     c.index-vectors-turn.is in
@@ -75,13 +85,14 @@ returns-in-Err-clause-overflow c =
 
 pub loop-turn-preserved : goal.loop-turn-preserved
 loop-turn-preserved c =
-    let n = c.args.nest.now in
+    let n = c.args.candidate.now.nest.now in
     let s = c.args.statement in
     let tree = c.args.tree.now in
     let turn = c.loop-turn.turn in
     let at = c.index-vectors-turn.result in
     let items = c.vectors_of-vectors.result.now in
-    let all = whole n s c.args.points.now.of items c.requires.points c.vectors_of-vectors.ensures in
+    let all = whole n s c.args.candidate.now.points.now.of items c.args.candidate.now.all_points
+    c.vectors_of-vectors.ensures in
     let vectors : List (List ℤ) = get_or (points_of n) s [] in
     let there = here vectors items turn at all c.loop-turn-test.true c.index-vectors-turn.is in
     record {
@@ -97,22 +108,26 @@ loop-turn-preserved c =
           (λ writer h. c.tag_of.ensures writer (subst (IsPointOf (trace n) writer) (sym c.in-Ok.ensures.value) h))
           c.in_ok-push-in-Ok.ensures.ok;
       known = c.eval.ensures.known;
-      told = c.take.ensures.left c.args.points.now.of tree (get_or c.args.points.now.of s []) turn c.loop-turn.invariant.told;
+      told = c.take.ensures.left c.args.candidate.now.points.now.of tree
+          (get_or c.args.candidate.now.points.now.of s []) turn c.loop-turn.invariant.told;
     }
 
 pub loop-turn-preserved-in-Some : goal.loop-turn-preserved-in-Some
 loop-turn-preserved-in-Some c =
-    let n = c.args.nest.now in
+    let n = c.args.candidate.now.nest.now in
     let s = c.args.statement in
     let tree = c.args.tree.now in
     let turn = c.loop-turn.turn in
     let at = c.index-vectors-turn.result in
     let items = c.vectors_of-vectors.result.now in
-    let all = whole n s c.args.points.now.of items c.requires.points c.vectors_of-vectors.ensures in
+    let all = whole n s c.args.candidate.now.points.now.of items c.args.candidate.now.all_points
+    c.vectors_of-vectors.ensures in
     let vectors : List (List ℤ) = get_or (points_of n) s [] in
     let there = here vectors items turn at all c.loop-turn-test.true c.index-vectors-turn.is in
-    let told = c.in-Some.ensures.tag c.args.points.now.of tree (get_or c.args.points.now.of s []) turn at
-    c.loop-turn.invariant.told (here (get_or c.args.points.now.of s []) items turn at c.vectors_of-vectors.ensures
+    let told = c.in-Some.ensures.tag c.args.candidate.now.points.now.of tree
+    (get_or c.args.candidate.now.points.now.of s []) turn at
+    c.loop-turn.invariant.told (here (get_or c.args.candidate.now.points.now.of s []) items turn at
+    c.vectors_of-vectors.ensures
     c.loop-turn-test.true c.index-vectors-turn.is) in
     record {
       passed = λ f lt. elim (cases_lt f turn) [
@@ -123,22 +138,25 @@ loop-turn-preserved-in-Some c =
       ];
       added = λ k checked. row_more n s k turn at tree c.loop-turn.sources c.push.new.self (Some c.in-Some.tag)
           (given_at n s k tree checked turn at there) (c.loop-turn.invariant.added k checked)
-          (λ writer h. given_tag n c.args.points.now.of tree at c.in-Some.tag c.requires.points told writer h)
+          (λ writer h. given_tag n c.args.candidate.now.points.now.of tree at c.in-Some.tag
+          c.args.candidate.now.all_points told writer h)
           c.in_ok-push.ensures.ok;
       known = c.loop-turn.invariant.known;
-      told = c.in-Some.ensures.left c.args.points.now.of tree (get_or c.args.points.now.of s []) turn
+      told = c.in-Some.ensures.left c.args.candidate.now.points.now.of tree
+          (get_or c.args.candidate.now.points.now.of s []) turn
           c.loop-turn.invariant.told;
     }
 
 pub loop-turn-preserved-in-Some-guessed_tag : goal.loop-turn-preserved-in-Some-guessed_tag
 loop-turn-preserved-in-Some-guessed_tag c =
-    let n = c.args.nest.now in
+    let n = c.args.candidate.now.nest.now in
     let s = c.args.statement in
     let tree = c.args.tree.now in
     let turn = c.loop-turn.turn in
     let at = c.index-vectors-turn.result in
     let items = c.vectors_of-vectors.result.now in
-    let all = whole n s c.args.points.now.of items c.requires.points c.vectors_of-vectors.ensures in
+    let all = whole n s c.args.candidate.now.points.now.of items c.args.candidate.now.all_points
+    c.vectors_of-vectors.ensures in
     let vectors : List (List ℤ) = get_or (points_of n) s [] in
     let there = here vectors items turn at all c.loop-turn-test.true c.index-vectors-turn.is in
     let told = c.in-Some-guessed_tag.ensures tree c.loop-turn.invariant.known in
@@ -149,9 +167,11 @@ loop-turn-preserved-in-Some-guessed_tag c =
             let e : f ≡ turn = omega arith in
             ap (at_vector tree vectors) e ∙ overflow_passed tree vectors turn at _ there told.is
       ];
-      added = λ k checked. row_more n s k turn at tree c.loop-turn.sources c.push-in-Some-guessed_tag.new.self (Some c.in-Some-guessed_tag.tag)
+      added = λ k checked. row_more n s k turn at tree c.loop-turn.sources c.push-in-Some-guessed_tag.new.self
+          (Some c.in-Some-guessed_tag.tag)
           (given_at n s k tree checked turn at there) (c.loop-turn.invariant.added k checked)
-          (λ writer h. given_tag n c.args.points.now.of tree at c.in-Some-guessed_tag.tag c.requires.points told writer h)
+          (λ writer h. given_tag n c.args.candidate.now.points.now.of tree at c.in-Some-guessed_tag.tag
+          c.args.candidate.now.all_points told writer h)
           c.in_ok-push-2.ensures.ok;
       known = c.loop-turn.invariant.known;
       told = c.later_tags-told.ensures tree c.loop-turn.invariant.known;
@@ -159,13 +179,20 @@ loop-turn-preserved-in-Some-guessed_tag c =
 
 pub later_tags-told-requires-clause-statement : goal.later_tags-told-requires-clause-statement
 later_tags-told-requires-clause-statement c =
-    omega (arith, c.requires.statement, points_length c.args.nest.now, ap length c.requires.points)
+    omega (
+      arith,
+      c.requires.statement,
+      points_length c.args.candidate.now.nest.now,
+      ap length
+          c.args.candidate.now.all_points,
+    )
 
 pub returns-clause-overflow : goal.returns-clause-overflow
 returns-clause-overflow c =
-    let n = c.args.nest.now in
+    let n = c.args.candidate.now.nest.now in
     let s = c.args.statement in
-    let all = whole n s c.args.points.now.of c.vectors_of-vectors.result.now c.requires.points
+    let all = whole n s c.args.candidate.now.points.now.of c.vectors_of-vectors.result.now
+    c.args.candidate.now.all_points
     c.vectors_of-vectors.ensures in
     let vectors : List (List ℤ) = get_or (points_of n) s [] in
     sym (first_none (at_vector c.args.tree.now vectors) (length vectors)
@@ -173,9 +200,10 @@ returns-clause-overflow c =
 
 pub returns-clause-sources : goal.returns-clause-sources
 returns-clause-sources c _ k checked =
-    let n = c.args.nest.now in
+    let n = c.args.candidate.now.nest.now in
     let s = c.args.statement in
-    let all = whole n s c.args.points.now.of c.vectors_of-vectors.result.now c.requires.points
+    let all = whole n s c.args.candidate.now.points.now.of c.vectors_of-vectors.result.now
+    c.args.candidate.now.all_points
     c.vectors_of-vectors.ensures in
     c.loop-turn.invariant.added k checked
     ∙ row_whole n s k c.loop-turn.turn (omega (arith, c.loop-turn.auto.turn-end, ap length all))

@@ -24,9 +24,9 @@ overflow_add-origin c =
       arith,
       c.requires.small,
       c.requires.statement,
-      few_statements c.args.nest.now,
+      few_statements c.args.candidate.now.nest.now,
       c.reads_of-read-end.ensures,
-      few_read_count c.args.nest.now c.args.statement,
+      few_read_count c.args.candidate.now.nest.now c.args.statement,
     )
 
 pub offset_bounds-as_slice-first : goal.offset_bounds-as_slice-first
@@ -35,9 +35,9 @@ offset_bounds-as_slice-first c =
       arith,
       c.requires.small,
       c.requires.statement,
-      few_statements c.args.nest.now,
+      few_statements c.args.candidate.now.nest.now,
       c.reads_of-read-end.ensures,
-      few_read_count c.args.nest.now c.args.statement,
+      few_read_count c.args.candidate.now.nest.now c.args.statement,
     )
 
 pub bounds-as_slice-first : goal.bounds-as_slice-first
@@ -47,15 +47,17 @@ bounds-as_slice-first c =
       c.requires.first,
       c.requires.sources,
       ap length c.as_slice.ensures,
-      read_within c.args.nest.now c.args.statement c.loop-read.read (omega (arith, c.reads_of-read-end.ensures)),
+      read_within c.args.candidate.now.nest.now c.args.statement c.loop-read.read (omega
+          (arith, c.reads_of-read-end.ensures)),
     )
 
 pub overflow_cast-number : goal.overflow_cast-number
-overflow_cast-number c = omega (arith, c.reads_of-read-end.ensures, few_read_count c.args.nest.now c.args.statement)
+overflow_cast-number c =
+    omega (arith, c.reads_of-read-end.ensures, few_read_count c.args.candidate.now.nest.now c.args.statement)
 
 pub returns-in-Some-clause-refusal : goal.returns-in-Some-clause-refusal
 returns-in-Some-clause-refusal c =
-    let n = c.args.nest.now in
+    let n = c.args.candidate.now.nest.now in
     let cert = c.args.cert.now in
     let s = c.args.statement in
     let k = c.loop-read.read in
@@ -70,7 +72,7 @@ returns-in-Some-clause-refusal c =
 
 pub loop-read-preserved : goal.loop-read-preserved
 loop-read-preserved c =
-    let n = c.args.nest.now in
+    let n = c.args.candidate.now.nest.now in
     let cert = c.args.cert.now in
     let s = c.args.statement in
     let k = c.loop-read.read in
@@ -95,5 +97,5 @@ loop-read-preserved c =
     }
 
 pub returns-clause-refusal : goal.returns-clause-refusal
-returns-clause-refusal c = reads_fine c.args.nest.now c.args.cert.now c.args.statement
+returns-clause-refusal c = reads_fine c.args.candidate.now.nest.now c.args.cert.now c.args.statement
     (λ k lt. c.loop-read.invariant.passed k (omega (arith, c.reads_of-read-end.ensures)))

@@ -10,7 +10,8 @@ use Rattle.net_checker.proofs.sources.reads_refusal.Given as goal
 -- no origin of the reads so far is refused, and their rows are added
 abbrev pub invariant-loop-read : goal.invariant-loop-read
 invariant-loop-read l = record {
-  passed : (k : ℕ) → k < l.read → at_read l.nest l.cert l.statement k ≡ None;
+  passed : (k : ℕ) → k < l.read → at_read l.candidate.nest.now l.cert l.statement k ≡ None;
   added : IsTrue (list_all is_tree l.cert.sources) → l.rows
-      ≡ l.initial.rows ++ map (read_sources l.nest (trace l.nest) l.statement) (range_with_len 0 l.read);
+      ≡ l.initial.rows ++ map (read_sources l.candidate.nest.now (trace l.candidate.nest.now) l.statement)
+      (range_with_len 0 l.read);
 }

@@ -7,13 +7,13 @@ use Rattle.net_checker.proofs.sources.source_refusal.Goals as goal
 
 pub returns-in-Some-clause-refusal : goal.returns-in-Some-clause-refusal
 returns-in-Some-clause-refusal c =
-    sources_found c.args.nest.now c.args.cert.now c.loop-statement.statement c.in-Some.refusal
+    sources_found c.args.candidate.now.nest.now c.args.cert.now c.loop-statement.statement c.in-Some.refusal
     (omega (arith, c.len-statement-end.ensures)) c.loop-statement.invariant.passed
     (sym c.in-Some.is ∙ c.in_ok-refusal.ensures.refusal)
 
 pub loop-statement-preserved : goal.loop-statement-preserved
 loop-statement-preserved c =
-    let n = c.args.nest.now in
+    let n = c.args.candidate.now.nest.now in
     let statement = c.loop-statement.statement in
     record {
       passed = λ s lt. elim (cases_lt s statement) [
@@ -28,9 +28,9 @@ loop-statement-preserved c =
     }
 
 pub returns-clause-refusal : goal.returns-clause-refusal
-returns-clause-refusal c = sources_fine c.args.nest.now c.args.cert.now
+returns-clause-refusal c = sources_fine c.args.candidate.now.nest.now c.args.cert.now
     (λ s lt. c.loop-statement.invariant.passed s (omega (arith, c.len-statement-end.ensures)))
 
 pub returns-clause-rows : goal.returns-clause-rows
 returns-clause-rows c _ trees = c.loop-statement.invariant.added trees
-    ∙ rows_whole c.args.nest.now c.loop-statement.statement (omega (arith, c.len-statement-end.ensures))
+    ∙ rows_whole c.args.candidate.now.nest.now c.loop-statement.statement (omega (arith, c.len-statement-end.ensures))

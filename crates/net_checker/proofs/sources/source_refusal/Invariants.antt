@@ -9,6 +9,6 @@ use Rattle.net_checker.proofs.sources.source_refusal.Given as goal
 -- no origin of the statements so far is refused, and their rows are there
 abbrev pub invariant-loop-statement : goal.invariant-loop-statement
 invariant-loop-statement l = record {
-  passed : (s : ℕ) → s < l.statement → reads_refusal l.nest l.cert s ≡ None;
-  added : IsTrue (list_all is_tree l.cert.sources) → l.rows ≡ rows_upto l.nest l.statement;
+  passed : (s : ℕ) → s < l.statement → reads_refusal l.candidate.nest.now l.cert s ≡ None;
+  added : IsTrue (list_all is_tree l.cert.sources) → l.rows ≡ rows_upto l.candidate.nest.now l.statement;
 }

@@ -8,7 +8,8 @@ if_ok (Err e) f p = p
 
 pub returns-in-Refused-clause-refusal : goal.returns-in-Refused-clause-refusal
 returns-in-Refused-clause-refusal c =
-    refused_judged c.args.nest.now c.args.statement c.args.read c.args.tree.now c.requires.read c.in_ok-rule.field-0
+    refused_judged c.args.candidate.now.nest.now c.args.statement c.args.read c.args.tree.now c.requires.read
+    c.in_ok-rule.field-0
     c.in_ok-rule.ensures.exact c.in-Refused.rule c.in-Refused.is
 
 pub add_sources-requires-clause-checked : goal.add_sources-requires-clause-checked
@@ -17,7 +18,7 @@ add_sources-requires-clause-checked c = (c.args.read, c.in_ok-rule.ensures.check
 pub returns-in-Accepted-clause-refusal : goal.returns-in-Accepted-clause-refusal
 returns-in-Accepted-clause-refusal c =
     if_ok c.add_sources.result
-    (λ o. accepted_judged c.args.nest.now c.args.statement c.args.read c.args.tree.now c.requires.read
+    (λ o. accepted_judged c.args.candidate.now.nest.now c.args.statement c.args.read c.args.tree.now c.requires.read
     c.in_ok-rule.field-0 c.in_ok-rule.ensures.exact o c.in-Accepted.is) c.add_sources.ensures.overflow
 
 pub returns-in-Accepted-clause-sources : goal.returns-in-Accepted-clause-sources

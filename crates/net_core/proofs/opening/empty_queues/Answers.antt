@@ -7,7 +7,7 @@ use Rattle.net_core.proofs.opening.empty_queues.Goals as goal
 
 pub loop-at-preserved : goal.loop-at-preserved
 loop-at-preserved g c =
-    let network = c.args.network.now in
+    let network = c.args.wired.now.network.now in
     let n = net_of network in
     let at = c.loop-at.at in
     let lt : at < length network.channels =

@@ -11,7 +11,7 @@ use Rattle.plain_data.proofs.Lists.{slice_get_read_same}
 
 pub count_puts-requires-clause-channels : goal.count_puts-requires-clause-channels
 count_puts-requires-clause-channels c k d is =
-    let network = c.args.network.now in
+    let network = c.args.wired.now.network.now in
     let n = net_of network in
     let i = c.loop-process.process-index in
     let found =
@@ -20,12 +20,12 @@ count_puts-requires-clause-channels c k d is =
     let script : n.script i ≡ c.process-item.result.script =
     ap (λ o. option_map_or (λ (process : Process). process.script) o []) found in
     let there : d < length network.channels =
-    c.requires.wired.put_channel i k d (ap (λ list. slice_get list k) script ∙ is) in
+    c.args.wired.now.wired.put_channel i k d (ap (λ list. slice_get list k) script ∙ is) in
     omega (arith, there, c.loop-process.invariant.0, ap length c.deref_mut.ensures.value)
 
 pub count_puts-requires-clause-room : goal.count_puts-requires-clause-room
 count_puts-requires-clause-room c d lt =
-    let network = c.args.network.now in
+    let network = c.args.wired.now.network.now in
     let n = net_of network in
     let i = c.loop-process.process-index in
     let found =
@@ -44,11 +44,11 @@ count_puts-requires-clause-room c d lt =
     let inside : suc i ≤ n.processes =
     omega (arith, c.loop-process-test.true, ap length c.as_slice-process-items.ensures) in
     let below : events_below n (suc i) ≤ events_below n n.processes = events_grow n (suc i) n.processes inside in
-    omega (arith, before, here, within, below, c.requires.numbers.events)
+    omega (arith, before, here, within, below, c.args.wired.now.numbers.events)
 
 pub loop-process-preserved : goal.loop-process-preserved
 loop-process-preserved c =
-    let network = c.args.network.now in
+    let network = c.args.wired.now.network.now in
     let n = net_of network in
     let i = c.loop-process.process-index in
     let found =
@@ -79,8 +79,8 @@ loop-process-preserved c =
 
 pub returns-clause-counts : goal.returns-clause-counts
 returns-clause-counts c d lt =
-    let network = c.args.network.now in
+    let network = c.args.wired.now.network.now in
     let all : c.loop-process.process-index ≡ length network.processes =
     omega (arith, ap length c.as_slice-process-items.ensures) in
     c.loop-process.invariant.1 d lt ∙ ap (puts_below (net_of network) d) all
-    ∙ all_puts (net_of network) c.requires.wired d lt
+    ∙ all_puts (net_of network) c.args.wired.now.wired d lt

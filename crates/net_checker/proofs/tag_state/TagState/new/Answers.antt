@@ -6,9 +6,15 @@ use Rattle.net_checker.specs.SlotRows.{slots_in}
 use Rattle.net_checker.proofs.TagSteps.{opens, opens_state}
 use Rattle.net_checker.proofs.tag_state.TagState.new.Goals as goal
 
+pub invariant_of-wired-clause-wired : goal.invariant_of-wired-clause-wired
+invariant_of-wired-clause-wired c = c.args.fitting.now.fits.shaped.wired
+
+pub invariant_of-wired-clause-numbers : goal.invariant_of-wired-clause-numbers
+invariant_of-wired-clause-numbers c = c.args.fitting.now.numbers
+
 pub returns-clause-start : goal.returns-clause-start
 returns-clause-start c =
-    opens c.args.network.now _ _ _ _ c.in_ok-new.ensures.opening
+    opens c.args.fitting.now.network.now _ _ _ _ c.in_ok-new.ensures.opening
     (c.in_ok-vec.ensures.items_if_clones_equal (λ y h. h) ∙ ap (λ k. replicate k 0) c.len.ensures)
     (c.in_ok-empty_queues.ensures ∙ ap (λ k. replicate k []) c.len-2.ensures)
     (c.in_ok-all_slots.ensures
@@ -20,7 +26,7 @@ returns-clause-state c =
     let queues = c.in_ok-empty_queues.ensures ∙ ap (λ k. replicate k []) c.len-2.ensures in
     let slots = c.in_ok-all_slots.ensures
     ∙ ap (map (λ (process : Process). replicate process.slots None)) c.as_slice.ensures in
-    opens_state (net_of c.args.network.now) _ c.in_ok-new.ensures.progress
+    opens_state (net_of c.args.fitting.now.network.now) _ c.in_ok-new.ensures.progress
     (ap length fires ∙ length-replicate _ _) (ap length queues ∙ length-replicate _ _)
-    (sym (length-map _ slots_in) ∙ ap length slots ∙ length-map c.args.network.now.processes _)
-    (opens c.args.network.now _ _ _ _ c.in_ok-new.ensures.opening fires queues slots)
+    (sym (length-map _ slots_in) ∙ ap length slots ∙ length-map c.args.fitting.now.network.now.processes _)
+    (opens c.args.fitting.now.network.now _ _ _ _ c.in_ok-new.ensures.opening fires queues slots)

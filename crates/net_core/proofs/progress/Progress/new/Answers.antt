@@ -12,7 +12,7 @@ returns-clause-opening c =
 
 pub returns-clause-progress : goal.returns-clause-progress
 returns-clause-progress c =
-    progress_first c.args.network.now c.requires.wired c.requires.numbers _
+    progress_first c.args.wired.now.network.now c.args.wired.now.wired c.args.wired.now.numbers _
     (c.in_ok-vec.ensures.items_if_clones_equal (λ y h. h) ∙ ap (λ k. replicate k 0) c.len.ensures)
     (c.in_ok-first_cursors.ensures
     ∙ ap (λ (processes : List Process). map (λ process. process.script) processes) c.as_slice.ensures)

@@ -1,13 +1,8 @@
-use Rattle.std.proofs.Common.{◌∙◌, ap, sym, arith, eq-eqb, eqb-true}
+use Rattle.std.proofs.Common.{◌∙◌, ap, sym, eq-eqb, eqb-true}
 use Rattle.net_core.specs.declared.refs.Refs.TheInside.{Inside}
-use Rattle.net_core.proofs.PackingLemmas.{IsPacked-length, IsPacked-other, IsPacked-same_slots}
+use Rattle.net_core.proofs.PackingLemmas.{IsPacked-other, IsPacked-same_slots}
 use Rattle.net_core.proofs.refs.RefsPartialEq.eq.Goals as goal
 use Rattle.net_core.proofs.refs.RefsPartialEq.eq.Goals.{then-self-other, else-self-other}
-
-pub shared_ref_as_front-eq : goal.shared_ref_as_front-eq
-shared_ref_as_front-eq c =
-    let sizes = IsPacked-length c.self.inside c.self.invariant in
-    omega (arith, sizes.2, c.from-used.ensures)
 
 pub returns-then-self-other-2 : goal.returns-then-self-other-2
 returns-then-self-other-2 c =
@@ -15,8 +10,8 @@ returns-then-self-other-2 c =
       | then-self-other w ↦
           c.eq.ensures
           ∙ IsPacked-same_slots c.self.inside c.other.inside c.args.self.now c.args.other.now c.self.invariant
-          c.other.invariant c.self.view_is c.other.view_is c.from-used.result c.from-used.ensures
-          w.if-self-other.true (sym w.value-is ∙ c.if-self-other-2.true)
+          c.other.invariant c.self.view_is c.other.view_is w.if-self-other.true
+          (sym w.value-is ∙ c.if-self-other-2.true)
       | else-self-other w ↦
           absurd
           (

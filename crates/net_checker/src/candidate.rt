@@ -1,0 +1,32 @@
+ghost use Rattle.std.specs.Prelude.{◌≡◌};
+ghost use Rattle.sanlp.specs.Points.{points_of};
+ghost use Rattle.sanlp.specs.Size.{SizeIsOk};
+ghost use Rattle.net_core.specs.Machine.{net_of};
+ghost use Rattle.net_core.specs.OneProof.{wired_props};
+ghost use Rattle.net_core.specs.Shape.{FitsNumbers};
+ghost use Rattle.net_core.specs.Sound.{FitsNest};
+
+use net_core::Network;
+use sanlp::{Nest, Points};
+
+/// A network that is judged for a nest, with the nest's points.
+#[derive(Drop)]
+pub(crate) struct Candidate<'a> {
+    pub(crate) nest: &'a Nest,
+    pub(crate) points: &'a Points,
+    pub(crate) network: &'a Network,
+    ghost size: { SizeIsOk nest.now },
+    ghost all_points: { points.now.of ≡ points_of nest.now },
+    ghost numbers: { FitsNumbers (net_of network.now) },
+}
+
+/// A candidate whose network's shape is that of the nest's points and reads.
+#[derive(Drop)]
+pub(crate) struct Fitting<'a> {
+    pub(crate) nest: &'a Nest,
+    pub(crate) points: &'a Points,
+    pub(crate) network: &'a Network,
+    ghost all_points: { points.now.of ≡ points_of nest.now },
+    ghost numbers: { FitsNumbers (net_of network.now) },
+    ghost fits: { FitsNest nest.now network.now } by { Prim.hlevel wired_props },
+}

@@ -1,0 +1,13 @@
+ghost use Rattle.net_core.specs.Machine.{net_of};
+ghost use Rattle.net_core.specs.OneProof.{wired_props};
+ghost use Rattle.net_core.specs.Shape.{FitsNumbers, IsWired};
+
+use crate::network::Network;
+
+/// A network whose events name only what is there, and of which all numbers are below 2 ^ 32.
+#[derive(Drop)]
+pub struct WiredNetwork<'a> {
+    pub network: &'a Network,
+    pub ghost wired: { IsWired (net_of network.now) } by { Prim.hlevel wired_props },
+    pub ghost numbers: { FitsNumbers (net_of network.now) },
+}

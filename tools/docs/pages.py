@@ -62,7 +62,9 @@ call_endings.Endings.EndsBy call_endings.Reads.ReadsTo compaan_top.Commands.read
 call_endings.Complaints.refusal_status compaan_top.Headline.HasFittingCertificate compaan_top.Headline.HasSoundCertificate
 compaan_top.Headline.IsAcceptable compaan_top.Laws.IsDone compaan_top.Laws.IsValid compaan_top.Outcome.IsOutcome compaan_top.Told.ComesTo
 compaan_top.Told.IsTold deps_text.Dependences.HasTree
-deps_text.DepsText.TellsDependences tree_graphs.Systems.later_systems tree_graphs.Systems.none_systems tree_graphs.Systems.place_systems
+deps_text.DepsText.TellsDependences tree_graphs.Joint.later_systems tree_graphs.Joint.none_systems tree_graphs.Joint.place_systems
+tree_graphs.Joint.point_systems tree_graphs.Joint.head_systems tree_graphs.Joint.write_systems_of stride_trees.Problem.problem_rows
+stride_trees.Problem.problem_writes stride_trees.Problem.problem_reads
 loop_bind.Judging.judged loop_bind.Parts.part_made loop_bind.Reasons.least_from loop_bind.Values.valued loop_grammar.Grammar.Derives
 loop_lex.Lexical.is_separator loop_lex.Lexical.is_token loop_lex.Tokens.longest loop_print.Numbers.without_token_numbers
 net_checker.Sources.AreUsable net_checker.Sources.IsUsable net_core.Cuts.IsLegal net_core.Names.name_at

@@ -1,4 +1,4 @@
--- What stays within 128 signed bits.
+-- What stays within 128 or 64 signed bits.
 use Rattle.std.specs.Prelude.{◌^◌, ℤ, pos, negsuc, ◌+ℤ◌, ◌*ℤ◌, Bool, true, false, ◌≡◌, ◌&&◌, nat_lt, List, [], ◌∷◌, ◌++◌, Option, Some, None, Result, MatchResult, if◌then◌else◌}
 use Rattle.std.specs.List.{list_all}
 use Rattle.std.specs.Option.{option_and_then}
@@ -36,6 +36,15 @@ combined_in_128_bits sum (c ∷ cs) (v ∷ at) =
 -- the form's value, unless a product or a partial sum, taken constant first and then in variable order, leaves 128 bits
 abbrev pub value_in_128_bits : Form → List ℤ → Option ℤ
 value_in_128_bits form at = combined_in_128_bits form.constant form.coefs at
+
+-- the number has 64 signed bits at most
+abbrev pub fits_64_bits : ℤ → Bool
+fits_64_bits (pos n) = nat_lt n (2 ^ 63)
+fits_64_bits (negsuc n) = nat_lt n (2 ^ 63)
+
+-- the number, unless it leaves 64 bits
+abbrev pub number_in_64_bits : ℤ → Option ℤ
+number_in_64_bits z = if fits_64_bits z then Some z else None
 
 -- these numbers are within 128 bits and were added at the end of a list, or one of them is not
 abbrev pub Appends : {T E : Type 0} → Result T E → List ℤ → List ℤ → List ℤ → Type 0

@@ -2,7 +2,7 @@ ghost use Rattle.std.specs.Prelude.{◌≡◌, ◌≤◌, pos, length, slice_ind
 ghost use Rattle.std.specs.Result.{result_ok};
 ghost use Rattle.affine_core.specs.Affine.{form_at};
 ghost use Rattle.affine_core.specs.Kept.{IsShort, kept_form};
-ghost use Rattle.affine_core.specs.Within.{combined_in_128_bits, sum_in_128_bits, value_in_128_bits};
+ghost use Rattle.affine_core.specs.Within.{combined_in_128_bits, number_in_64_bits, sum_in_128_bits, value_in_128_bits};
 
 use crate::form::{Form, Overflow, add_product, add_products};
 use crate::short::Coefs;
@@ -102,9 +102,10 @@ impl KeptForm {
         }
     }
 
-    /// The coefficient of a variable, or 0 where the form has none of it, if it has 64 bits. It takes no memory.
+    /// The coefficient of a variable, or 0 where the form has no such variable; none only where it leaves 64 bits. It
+    /// takes no memory.
     pub fn coefficient_in_64_bits(&self, variable: usize) -> Option<i64>
-        ensures { IfSome result (λ coef. coef ≡ slice_index_or self.now.coefs variable (pos 0)) }
+        ensures { result ≡ number_in_64_bits (slice_index_or self.now.coefs variable (pos 0)) }
     {
         match &self.numbers {
             Numbers::Narrow(count, _, coefs) => {

@@ -10,6 +10,7 @@ use Rattle.std.specs.Prelude.{IsTrue, Some, slice_get, unsigned_abs}
 use Rattle.std.specs.Int.{int_div_euclid}
 use Rattle.std.proofs.lemmas.Bool.{and_parts, leb-true}
 use Rattle.std.proofs.lemmas.Int.{by_lt_z, ints}
+use Rattle.affine_core.specs.Within.{fits_64_bits}
 use Rattle.affine_core.specs.declared.form.Form.{Form}
 use Rattle.affine_core.specs.Affine.{form_at}
 use Rattle.loop_walk.specs.EnteredLoops.{parts_within, turns_within}
@@ -28,7 +29,6 @@ use Rattle.sanlp.proofs.Each.{Each, each_append, each_of}
 use Rattle.sanlp.proofs.Folds.{by_parts, fold_assign_at, fold_guard, fold_guard_at, fold_loop, fold_loop_at}
 use Rattle.sanlp.proofs.Intervals.{in_interval}
 use Rattle.sanlp.proofs.Members.{at_in, each_from_in, each_in}
-use Rattle.source_tree.specs.Walk.{fits_64_bits}
 
 abbrev pub AreLoopValues : List ℤ → Type 0
 AreLoopValues at = Each (λ v. IsTrue (is_loop_value v)) at

@@ -10,6 +10,7 @@ use Rattle.std.proofs.lemmas.Option.{get_or_from_slice_get, slice_get_within}
 use Rattle.net_core.proofs.FireValues.{turn_entry}
 use Rattle.net_maker.specs.StatementPoints.{NeverOverflowsIn}
 use Rattle.net_maker.proofs.LoopValues.{AreLoopValues, entry_values, value_fits, value_size}
+use Rattle.affine_core.specs.Within.{fits_64_bits}
 use Rattle.sanlp.specs.declared.nest.Nest.{Nest}
 use Rattle.sanlp.specs.Points.{points_of}
 use Rattle.sanlp.specs.Size.{SizeIsOk, is_loop_value}
@@ -21,7 +22,6 @@ use Rattle.source_check.proofs.Exactness.{checked_is_exact}
 use Rattle.source_tree.specs.Checked.{IsChecked}
 use Rattle.source_tree.specs.Exact.{IsPointOf}
 use Rattle.source_tree.specs.Gives.{gives}
-use Rattle.source_tree.specs.Walk.{fits_64_bits}
 use Rattle.source_tree.specs.declared.tree.Found.TheVariants as found
 use Rattle.source_tree.specs.declared.tree.Tree.{Tree}
 use Rattle.tree_bounds.specs.Bounds.{AreWithin, NeverOverflows}

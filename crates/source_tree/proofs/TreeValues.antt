@@ -8,11 +8,11 @@ use Rattle.std.specs.Int.RustNames.{int_le}
 use Rattle.std.proofs.lemmas.Option.{same_Some, option_and_then_some, cond_some}
 use Rattle.affine_core.specs.declared.form.Form.{Form}
 use Rattle.affine_core.specs.Affine.{form_at}
-use Rattle.affine_core.specs.Within.{value_in_128_bits}
+use Rattle.affine_core.specs.Within.{fits_64_bits, number_in_64_bits, value_in_128_bits}
 use Rattle.affine_core.proofs.Linear.{combined_in_128_bits_is}
 use Rattle.source_tree.specs.Gives.{values, gives, gives_step}
-use Rattle.source_tree.specs.Walk.{Walks, walk_step, outcome_of, map_values, mapped_value, number_in_64_bits}
-use Rattle.source_tree.specs.Walk.{fits_64_bits, divides, with_quotient}
+use Rattle.source_tree.specs.Walk.{Walks, walk_step, outcome_of, map_values, mapped_value}
+use Rattle.source_tree.specs.Walk.{divides, with_quotient}
 use Rattle.source_tree.specs.declared.tree.Found.{Found}
 use Rattle.source_tree.specs.declared.tree.Found.TheVariants as found
 use Rattle.source_tree.specs.declared.tree.Tree.{Tree}

@@ -3,22 +3,13 @@ use Rattle.std.specs.Prelude.{◌≡◌, ℕ, ◌^◌, ◌+◌, ◌==◌, ◌%�
 use Rattle.std.specs.List.{list_all}
 use Rattle.std.specs.Option.{option_and_then, option_map}
 use Rattle.affine_core.specs.declared.form.Form.{Form}
-use Rattle.affine_core.specs.Within.{value_in_128_bits}
+use Rattle.affine_core.specs.Within.{fits_64_bits, number_in_64_bits, value_in_128_bits}
 use Rattle.int_polyhedra.specs.Steps.{floor}
 use Rattle.source_tree.specs.declared.tree.Found.{Found}
 use Rattle.source_tree.specs.declared.tree.Found.TheVariants as found
 use Rattle.source_tree.specs.declared.tree.Tree.{Tree}
 use Rattle.source_tree.specs.declared.tree.Tree.TheOpen.{Tree-F, Test, Divides, Writer, Zero, Dead}
 use Rattle.source_tree.specs.declared.tree.Tree.TheFolds.{fold-Tree}
-
--- the number has 64 signed bits at most
-abbrev pub fits_64_bits : ℤ → Bool
-fits_64_bits (pos n) = nat_lt n (2 ^ 63)
-fits_64_bits (negsuc n) = nat_lt n (2 ^ 63)
-
--- the number, unless it leaves 64 bits
-abbrev pub number_in_64_bits : ℤ → Option ℤ
-number_in_64_bits z = if fits_64_bits z then Some z else None
 
 -- the value of a form of a map, unless it leaves 128 bits on the way or 64 bits at the end
 abbrev pub mapped_value : Form → List ℤ → Option ℤ

@@ -11,6 +11,7 @@ use Rattle.std.specs.Prelude.{All, IfSome, IsTrue, None, Option, Some, int_le, i
 use Rattle.std.specs.Option.{option_and_then, option_map}
 use Rattle.std.proofs.lemmas.List.Elements.{All-append, All-cons, All-head, All-nil, All-tail}
 use Rattle.std.proofs.Math.Nat.{div-le_self, le-max_left, le-max_right}
+use Rattle.affine_core.specs.Within.{fits_64_bits, number_in_64_bits}
 use Rattle.affine_core.specs.declared.form.Form.{Form}
 use Rattle.affine_core.specs.Affine.{form_at}
 use Rattle.affine_core.proofs.Linear.{combined_in_128_bits_is}
@@ -22,7 +23,7 @@ use Rattle.source_tree.specs.declared.tree.Tree.{Tree}
 use Rattle.source_tree.specs.declared.tree.Tree.TheVariants.{Writer, Zero, Dead}
 use Rattle.source_tree.specs.declared.tree.Tree.TheViews.{Test, Divides}
 use Rattle.source_tree.specs.Gives.{gives, values}
-use Rattle.source_tree.specs.Walk.{divides, fits_64_bits, map_values, mapped_value, number_in_64_bits, outcome_of}
+use Rattle.source_tree.specs.Walk.{divides, map_values, mapped_value, outcome_of}
 use Rattle.source_tree.specs.Walk.{with_quotient}
 use Rattle.source_tree.proofs.Gives.{gives-Divides, gives-Test, gives-Writer}
 use Rattle.source_tree.proofs.WalkOutcomes.{walked_dead, walked_divides, walked_test, walked_writer, walked_zero}

@@ -1,12 +1,12 @@
 -- How far from 0 the values of forms are, and what that says of a tree.
 use Rattle.std.specs.Prelude.{◌≡◌, ◌≤◌, ◌+◌, ◌*◌, ℕ, ℤ, List, None, Some, All, IsTrue, sum_by, unsigned_abs}
 use Rattle.affine_core.specs.declared.form.Form.{Form}
-use Rattle.affine_core.specs.Within.{value_in_128_bits}
+use Rattle.affine_core.specs.Within.{fits_64_bits, value_in_128_bits}
 use Rattle.sanlp.specs.declared.nest.Point.{Point}
 use Rattle.source_tree.specs.declared.tree.Found.TheVariants.{At}
 use Rattle.source_tree.specs.declared.tree.Tree.{Tree}
 use Rattle.source_tree.specs.Gives.{gives}
-use Rattle.source_tree.specs.Walk.{fits_64_bits, outcome_of}
+use Rattle.source_tree.specs.Walk.{outcome_of}
 
 -- no value is further from 0 than the limit
 abbrev pub AreWithin : ℕ → List ℤ → Type 0

@@ -8,10 +8,10 @@ use Rattle.std.specs.Option.{option_and_then, option_map}
 use Rattle.std.proofs.lemmas.Bool.{lt-ltb, OnTrue_at, OnTrue_from}
 use Rattle.std.proofs.lemmas.Int.{fits_signed_from_abs, ints}
 use Rattle.affine_core.specs.declared.form.Form.{Form}
-use Rattle.affine_core.specs.Within.{value_in_128_bits}
+use Rattle.affine_core.specs.Within.{fits_64_bits, number_in_64_bits, value_in_128_bits}
 use Rattle.affine_core.proofs.Integers.{unsigned_abs-sum}
 use Rattle.sanlp.proofs.ModerateForms.{product_small}
-use Rattle.source_tree.specs.Walk.{fits_64_bits, map_values, mapped_value, number_in_64_bits}
+use Rattle.source_tree.specs.Walk.{map_values, mapped_value}
 use Rattle.tree_eval.specs.declared.line.Line.{Line}
 use Rattle.tree_eval.specs.Stretches.{AddsLines, AreSmall, IsLine, line_at, values_at}
 

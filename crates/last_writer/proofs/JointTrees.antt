@@ -7,9 +7,8 @@
 use Rattle.std.proofs.Common.{◌≡◌, ◌+◌, ◌≤◌, ◌<◌, ◌^◌, ℕ, zero, suc, ℤ, List, [], ◌∷◌, ◌++◌, length, map, Bool, true, false}
 use Rattle.std.proofs.Common.{cond, refl, sym, ap, ◌∙◌, subst, arith}
 use Rattle.std.specs.Prelude.{Option, Some, None, All, Contains, is_some, slice_get}
-use Rattle.std.specs.List.{AllZip, count_by, filter}
+use Rattle.std.specs.List.{AllZip, count_by, filter, flat_map}
 use Rattle.std.specs.Option.{option_map_or}
-use Rattle.std.proofs.lemmas.Bool.{leb-true}
 use Rattle.std.proofs.lemmas.List.{append-nil, length-append, length-map}
 use Rattle.std.proofs.lemmas.List.Elements.{All-append, All-cons, All-contains, All-head, All-nil, All-tail, All-weaker}
 use Rattle.std.proofs.lemmas.List.Sums.{sum_by-cons, length-filter, count_by-le-length}
@@ -25,19 +24,22 @@ use Rattle.tree_graphs.specs.declared.writes.Problem.{Problem}
 use Rattle.tree_order.specs.declared.candidates.Read.{Read}
 use Rattle.int_polyhedra.specs.declared.system.System.{System}
 use Rattle.int_polyhedra.specs.Systems.{AreOver}
-use Rattle.last_writer.specs.Answers.{answered_context}
+use Rattle.stride_trees.specs.Answers.{answered_context}
 use Rattle.stride_trees.specs.Answers.{below_answer, HasSmallRows, IsSmallTest}
-use Rattle.last_writer.specs.Leaves.{context_of, fact_context, is_told, pairs_of, told_pair, told_pairs, vars_of}
-use Rattle.last_writer.specs.Leaves.{HasFacts, IsAnswered, IsBelow}
-use Rattle.last_writer.specs.Writers.{is_never, stands_before, AreWriters, IsPlaceOf, IsReadOf, IsTestAt}
-use Rattle.last_writer.specs.Writers.{IsWriterOf}
-use Rattle.last_writer.specs.declared.leaves.Answered.{Answered}
-use Rattle.last_writer.specs.declared.writers.Writer.{Writer}
-use Rattle.last_writer.proofs.Below.{answered_more, vars_are}
-use Rattle.last_writer.proofs.LeafConversion.{zip_count}
-use Rattle.last_writer.proofs.WriterTests.{tests_asked, told_asked}
-use Rattle.last_writer.proofs.QuotientWrites.{one_pair, told_all}
-use Rattle.tree_graphs.specs.Asked.{IsProblem}
+use Rattle.stride_trees.specs.Leaves.{context_of, fact_context, is_told, own_context, pairs_of, told_pair, told_pairs, vars_of}
+use Rattle.stride_trees.specs.Leaves.{which_in, Converts, HasFacts, IsAnswered, IsBelow, IsForOne, IsJoinedBelow, IsWriterIn}
+use Rattle.stride_trees.specs.Writers.{is_never, IsPlaceOf, IsReadOf, IsTestAt}
+use Rattle.last_writer.specs.Writers.{stands_before, AreWriters, HasAllWriters}
+use Rattle.stride_trees.specs.Writers.{IsWriterOf}
+use Rattle.stride_trees.specs.declared.leaves.Answered.{Answered}
+use Rattle.stride_trees.specs.declared.writers.Writer.{Writer}
+use Rattle.stride_trees.proofs.Below.{answered_more, vars_are}
+use Rattle.stride_trees.proofs.LeafConversion.{zip_count}
+use Rattle.stride_trees.proofs.WriterTests.{tests_asked, told_asked}
+use Rattle.last_writer.proofs.QuotientWrites.{one_pair, one_writer, told_all, writers_ascend}
+use Rattle.last_writer.proofs.Whole.{own_are}
+use Rattle.stride_trees.proofs.ReadBounds.{few_loops as reader_loops, few_rows as reader_rows}
+use Rattle.tree_graphs.specs.Problems.{IsProblem}
 use Rattle.tree_graphs.proofs.EdgeSums.{over_append}
 use Rattle.tree_graphs.proofs.RowBounds.{forms_append}
 use Rattle.tree_graphs.specs.Level.{HasLevel}
@@ -46,15 +48,12 @@ use Rattle.plain_data.proofs.Lists.{slice_get-append_right}
 use Rattle.tree_sums.specs.Parts.{IsWithin}
 use Rattle.tree_sums.proofs.SmallRows.{widened_length}
 use Rattle.tree_sums.proofs.Within.{IsWithin-weaker}
-use Rattle.sanlp.proofs.Elements.{list_all_at}
-use Rattle.sanlp.proofs.Roles.{Fits, fits_of}
 use Rattle.sanlp.specs.declared.nest.Nest.{Nest}
 use Rattle.sanlp.specs.declared.nest.Statement.{Statement}
-use Rattle.sanlp.specs.WellFormed.{statement_fits}
 use Rattle.source_tree.specs.Checked.{at_divides, IsCheckedIn}
 use Rattle.source_tree.specs.Rows.{RowExpr, Take, row_forms}
 use Rattle.source_tree.specs.Systems.{Context, Occurrence, array_writes, divides_no, divides_yes, every, more_rows, root_context}
-use Rattle.source_tree.specs.Systems.{undivided_rows, with_write, write_to, writes_from}
+use Rattle.source_tree.specs.Systems.{undivided_rows, with_write, write_systems, write_to, writes_from, MayName}
 use Rattle.source_tree.specs.declared.tree.Tree.{Tree}
 use Rattle.source_tree.specs.declared.tree.Tree.TheViews.{Divides}
 use Rattle.source_tree.specs.References.{occurrence_of}
@@ -73,17 +72,11 @@ use Rattle.tree_facts.specs.declared.search.Facts.{Facts}
 
 -- The reader
 
-pub reader_fits : (w : Answered) → IsAnswered w → Fits w.nest.now.arrays w.read.statement.now
-reader_fits w h =
-    fits_of w.nest.now.arrays w.read.statement.now
-    (list_all_at (statement_fits w.nest.now.arrays) w.nest.now.statements w.read.number w.read.statement.now
-    w.nest.now.well_formed.statements_fit h.read.statement)
+pub few_loops : (w : Answered) → HasAllWriters w → length w.read.statement.now.loops ≤ 6
+few_loops w h = reader_loops w.nest.now w.read h.read
 
-pub few_loops : (w : Answered) → IsAnswered w → length w.read.statement.now.loops ≤ 6
-few_loops w h = leb-true (length w.read.statement.now.loops) 6 (reader_fits w h).few_loops
-
-pub few_rows : (w : Answered) → IsAnswered w → length w.read.statement.now.rows ≤ 32
-few_rows w h = leb-true (length w.read.statement.now.rows) 32 (reader_fits w h).few_rows
+pub few_rows : (w : Answered) → HasAllWriters w → length w.read.statement.now.rows ≤ 32
+few_rows w h = reader_rows w.nest.now w.read h.read
 
 -- Places of a writer
 
@@ -145,7 +138,7 @@ few_written array u (s ∷ statements) = go (write_to array u s) (few_written ar
   go None h = omega (arith, h)
   go (Some w) h = omega (arith, h)
 
-pub few_pairs : (w : Answered) → IsAnswered w → length (pairs_of w) ≤ 64
+pub few_pairs : (w : Answered) → HasAllWriters w → length (pairs_of w) ≤ 64
 few_pairs w h =
     let n : Nest = w.nest.now in
     let r : Occurrence = occurrence_of w.read in
@@ -167,7 +160,7 @@ few_pairs w h =
 abbrev IsAskedPair : ℕ → ReadAndWrite → Type 0
 IsAskedPair vars o = (p : ℕ) → HasLevel o.read o.write p → IsProblem vars o.read o.write p
 
-pub told_places : (w : Answered) → IsAnswered w → (x : Writer)
+pub told_places : (w : Answered) → HasAllWriters w → (x : Writer)
     → IsWriterOf w.nest.now (occurrence_of w.read) w.tests.now x → is_told w.answers.now x ≡ true
     → ArePlaces x.strides (vars_of w) x.places
 told_places w h x of says =
@@ -176,7 +169,7 @@ told_places w h x of says =
     (writer_places w.nest.now (occurrence_of w.read) w.tests.now x h.few of
     (told_asked w.answers.now x (omega (arith, h.answers, h.few)) says))
 
-asked_pair : (w : Answered) → IsAnswered w → (x : Writer)
+asked_pair : (w : Answered) → HasAllWriters w → (x : Writer)
     → IsWriterOf w.nest.now (occurrence_of w.read) w.tests.now x → is_told w.answers.now x ≡ true
     → IsAskedPair (vars_of w) (told_pair (vars_of w) x)
 asked_pair w h x of says p level =
@@ -200,7 +193,7 @@ stands w x of says =
       loops = refl;
     }
 
-pub read_joined : (w : Answered) (r : Read) → IsAnswered w → length w.answers.now ≡ length w.tests.now
+pub read_joined : (w : Answered) (r : Read) → HasAllWriters w → length w.answers.now ≡ length w.tests.now
     → (context_of w).vars ≡ r.context.now.vars → HasSmallRows r.context.now → length r.context.now.rows ≤ 64
     → pairs_of_read r ≡ pairs_of w → IsJoined r
 read_joined w r h all same_vars small few pairs =
@@ -258,6 +251,60 @@ below_here w context here count all made small = record {
   is = refl;
 }
 
+-- The writers as they are asked: for all levels, each has its own number, and the writes that stand nowhere before the
+-- read have no systems.
+
+for_all : (w : Answered) → HasAllWriters w → IsForOne w → ⊥
+for_all w h (one, only) = absurd (let no : Some one ≡ None = sym only ∙ h.every in cc)
+
+asked_in : (w : Answered) → HasAllWriters w → (x : Writer) → IsWriterOf w.nest.now (occurrence_of w.read) w.tests.now x
+    → IsWriterIn w x
+asked_in w h x of = record {
+  of = of;
+  may = subst (λ o. MayName (which_in o) (write_of x.strides).number) (sym h.every) tt;
+  level = λ one only. absurd (for_all w h (one, only));
+  told = λ one. absurd (for_all w h one);
+}
+
+pub all_answered : (w : Answered) → HasAllWriters w → IsAnswered w
+all_answered w h = record {
+  read = h.read;
+  each = All-weaker (IsWriterOf w.nest.now (occurrence_of w.read) w.tests.now) (IsWriterIn w) (asked_in w h) w.writers.now
+      h.writers.each;
+  once = λ x y there also same. one_writer w.writers.now
+      (writers_ascend w.nest.now (occurrence_of w.read) w.tests.now w.writers.now h.writers) x y there also same;
+  all = λ c further. subst (λ o. flat_map (write_systems (occurrence_of w.read) (which_in o) c further)
+      (map (λ (x : Writer). write_of x.strides) w.writers.now)
+      ≡ flat_map (write_systems (occurrence_of w.read) (which_in o) c further)
+      (array_writes w.nest.now (occurrence_of w.read))) (sym h.every)
+      (own_are w.nest.now (occurrence_of w.read) w.tests.now c further w.writers.now h.writers);
+  few = h.few;
+  answers = h.answers;
+  without = λ one. absurd (for_all w h one);
+  alone = λ one. absurd (for_all w h one);
+}
+
+pub all_joined : (w : Answered) (here : ℕ) (tree : Tree) → HasAllWriters w → HasFacts w → IsBelow w here (fact_context w [])
+    → IsCheckedForAll every (pairs_of w) (fact_context w []) tree → IsJoinedBelow w here tree
+all_joined w here tree h facts below checked = record {
+  facts = facts;
+  rest = [];
+  below = below;
+  checked = subst (λ o. IsCheckedForAll (which_in o) (pairs_of w) (fact_context w []) tree) (sym h.every) checked;
+  simple = λ one. absurd (for_all w h one);
+}
+
+-- what a joined tree became is checked in the context without facts
+pub all_checked : (w : Answered) (here : ℕ) (tree own : Tree) → HasAllWriters w → IsBelow w here (fact_context w [])
+    → IsCheckedForAll every (pairs_of w) (fact_context w []) tree → Converts w here tree own
+    → IsCheckedIn w.nest.now (occurrence_of w.read) every (context_of w) own
+all_checked w here tree own h below checked converts =
+    subst (λ c. IsCheckedIn w.nest.now (occurrence_of w.read) every c own)
+    (ap (λ rows. record { vars = (context_of w).vars; rows = rows }) (append-nil (context_of w).rows))
+    (subst (λ o. IsCheckedIn w.nest.now (occurrence_of w.read) (which_in o) (own_context w []) own) h.every
+    (converts.checked [] below
+    (subst (λ o. IsCheckedForAll (which_in o) (pairs_of w) (fact_context w []) tree) (sym h.every) checked)))
+
 -- the joined tree is checked there for the writes that are joined
 pub joined_below : (w : Answered) (r : Read) (context : System) (tree : Tree) → IsMadeAs context (fact_context w [])
     → r.context.now ≡ context → pairs_of_read r ≡ pairs_of w → IsJoinedTree r r.context.now tree
@@ -268,9 +315,9 @@ joined_below w r context tree made is pairs joined =
 
 -- The context with facts
 
-pub same_answered : (w more : Answered) → IsAnswered w → more.nest ≡ w.nest → more.read ≡ w.read
-    → more.writers ≡ w.writers → more.tests ≡ w.tests → more.answers ≡ w.answers → IsAnswered more
-same_answered w more h nest read writers tests answers = record {
+pub same_answered : (w more : Answered) → HasAllWriters w → more.nest ≡ w.nest → more.read ≡ w.read
+    → more.writers ≡ w.writers → more.tests ≡ w.tests → more.answers ≡ w.answers → more.only ≡ w.only → HasAllWriters more
+same_answered w more h nest read writers tests answers only = record {
   read = subst (λ n. IsReadOf n more.read) (sym (ap (λ x. x.now) nest))
       (subst (IsReadOf w.nest.now) (sym read) h.read);
   writers = subst (λ n. AreWriters n (occurrence_of more.read) (array_writes n (occurrence_of more.read)) more.tests.now
@@ -283,6 +330,7 @@ same_answered w more h nest read writers tests answers = record {
       w.tests.now xs) (sym (ap (λ x. x.now) writers)) h.writers)));
   few = omega (arith, ap (λ x. length x.now) tests, h.few);
   answers = omega (arith, ap (λ x. length x.now) tests, ap (λ x. length x.now) answers, h.answers);
+  every = only ∙ h.every;
 }
 
 pub add_facts : (c : Context) (context : System) (found : Facts) → IsMadeAs context c → HasSmallRows context
@@ -316,10 +364,10 @@ facts_made c context there facts made over is =
 
 -- One answer more
 
-pub answers_more : (w next : Answered) (answer : Bool) → IsAnswered w → length w.answers.now < length w.tests.now
+pub answers_more : (w next : Answered) (answer : Bool) → HasAllWriters w → length w.answers.now < length w.tests.now
     → next.nest ≡ w.nest → next.read ≡ w.read → next.writers ≡ w.writers → next.tests ≡ w.tests
-    → next.answers.now ≡ w.answers.now ++ answer ∷ [] → IsAnswered next
-answers_more w next answer h lt nest read writers tests answers = record {
+    → next.answers.now ≡ w.answers.now ++ answer ∷ [] → next.only ≡ w.only → HasAllWriters next
+answers_more w next answer h lt nest read writers tests answers only = record {
   read = subst (λ n. IsReadOf n next.read) (sym (ap (λ x. x.now) nest))
       (subst (IsReadOf w.nest.now) (sym read) h.read);
   writers = subst (λ (n : Nest). AreWriters n (occurrence_of next.read) (array_writes n (occurrence_of next.read))
@@ -338,6 +386,7 @@ answers_more w next answer h lt nest read writers tests answers = record {
     ap (λ x. length x.now) tests,
     lt,
   );
+  every = only ∙ h.every;
 }
 
 element_at : (P : Division → Type 0) (ds : List Division) (k : ℕ) (d : Division) → All P ds → slice_get ds k ≡ Some d → P d
@@ -346,12 +395,12 @@ element_at P (x ∷ ds) zero d all e = subst P (same_Some x d e) (All-head P x d
 element_at P (x ∷ ds) (suc k) d all e = element_at P ds k d (All-tail P x ds all) e
 
 -- the next test
-pub small_at : (w : Answered) (test : Division) → IsAnswered w → slice_get w.tests.now (length w.answers.now) ≡ Some test
+pub small_at : (w : Answered) (test : Division) → HasAllWriters w → slice_get w.tests.now (length w.answers.now) ≡ Some test
     → IsSmallTest (length w.read.statement.now.loops) test
 small_at w test h at =
     element_at (IsSmallTest (length w.read.statement.now.loops)) w.tests.now (length w.answers.now) test h.writers.small at
 
-pub vars_below : (w : Answered) (context : System) → IsAnswered w → IsMadeAs context (context_of w)
+pub vars_below : (w : Answered) (context : System) → HasAllWriters w → IsMadeAs context (context_of w)
     → context.vars ≡ length w.read.statement.now.loops + length w.answers.now
 vars_below w context h made =
     sym made.vars ∙ vars_are (root_context (occurrence_of w.read)) w.tests.now w.answers.now h.answers
@@ -409,7 +458,7 @@ no_checked w test answer tree at is h =
     (subst (λ c. IsCheckedIn w.nest.now (occurrence_of w.read) every c tree)
     (sym (answered_more root w.tests.now w.answers.now test false at)) h)
 
-pub divides_checked : (w : Answered) (test : Division) (tree : Tree) (form : Form) (first second : Tree) → IsAnswered w
+pub divides_checked : (w : Answered) (test : Division) (tree : Tree) (form : Form) (first second : Tree) → HasAllWriters w
     → slice_get w.tests.now (length w.answers.now) ≡ Some test → tree ≡ Divides form test.divisor first second
     → form ≡ widened_form (context_of w).vars test.form
     → IsCheckedIn w.nest.now (occurrence_of w.read) every

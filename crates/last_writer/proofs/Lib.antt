@@ -1,17 +1,7 @@
-pub mod ProofSteps
-pub mod WriterTests
 pub mod RootContexts
-pub mod Below
-pub mod TreeConversion
-pub mod LevelCounts
 pub mod StatementWrites
 pub mod WriterLists
 pub mod JointTrees
-pub mod Opens
-pub mod WriterLeaves
 pub mod ReadClass
-pub mod LeafConversion
-pub mod OrderSteps
 pub mod QuotientWrites
 pub mod Whole
-pub mod FactLeaves

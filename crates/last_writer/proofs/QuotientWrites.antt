@@ -17,9 +17,9 @@ use Rattle.tree_order.specs.Reads.{pair_in, read_in, write_in}
 use Rattle.tree_graphs.specs.Joint.{ReadAndWrite}
 use Rattle.tree_graphs.specs.declared.writes.Problem.{Problem}
 use Rattle.tree_order.specs.declared.candidates.Read.{Read}
-use Rattle.last_writer.specs.Leaves.{is_told, told_pair, told_pairs}
+use Rattle.stride_trees.specs.Leaves.{is_told, told_pair, told_pairs}
 use Rattle.last_writer.specs.Writers.{stands_before, AreWriters}
-use Rattle.last_writer.specs.declared.writers.Writer.{Writer}
+use Rattle.stride_trees.specs.declared.writers.Writer.{Writer}
 use Rattle.source_tree.specs.declared.reference.Reference.{Reference}
 use Rattle.tree_graphs.proofs.Just.{written_number}
 use Rattle.sanlp.specs.declared.nest.Nest.{Nest}
@@ -112,6 +112,21 @@ writers_ascend n r tests writers h =
     (subst (λ (ws : List Occurrence). Ascend 0 (map (λ (w : Occurrence). w.number) ws)) (sym h.are)
     (filter_ascend (λ (w : Occurrence). w.number) (stands_before r) 0 (array_writes n r)
     (writes_ascend r.access.array 0 n.statements)))
+
+-- a number names one writer
+pub one_writer : (writers : List Writer) → Ascend 0 (map (λ (w : Writer). (write_of w.strides).number) writers)
+    → (x y : Writer) → Contains writers x → Contains writers y
+    → (write_of x.strides).number ≡ (write_of y.strides).number → x ≡ y
+one_writer writers asc x y there also same =
+    let number : Writer → ℕ = λ x. (write_of x.strides).number in
+    let a = contains_at writers x there in
+    let b = contains_at writers y also in
+    let first : slice_get (map number writers) a.0 ≡ Some (number x) =
+    slice_get-map number writers a.0 ∙ ap (option_map number) a.1 in
+    let second : slice_get (map number writers) b.0 ≡ Some (number x) =
+    slice_get-map number writers b.0 ∙ ap (option_map number) b.1 ∙ ap Some (sym same) in
+    let place : a.0 ≡ b.0 = one_place 0 (map number writers) a.0 b.0 (number x) asc first second in
+    same_Some x y (sym a.1 ∙ ap (slice_get writers) place ∙ b.1)
 
 -- a number names one pair
 pub one_pair : (n : Nest) (r : Occurrence) (tests : List Division) (writers : List Writer) (vars : ℕ)

@@ -4,20 +4,21 @@
 -- have at most six tests. The context is the reader's domain rows as they stand, over its loops alone: their numbers
 -- are those of the nest, and no answer has changed them. What is added by answers is told elsewhere.
 use Rattle.std.proofs.Common.{◌≡◌, ◌+◌, ◌≤◌, ◌++◌, ℕ, List, [], length, refl, sym, ap, ◌∙◌, subst, arith}
-use Rattle.std.specs.Prelude.{Some, IsTrue}
+use Rattle.std.specs.Prelude.{None, Some, IsTrue}
 use Rattle.std.specs.List.{list_all, sum_by}
 use Rattle.std.proofs.lemmas.List.Elements.{All-nil}
 use Rattle.std.proofs.lemmas.Option.{same_Some}
 use Rattle.tree_graphs.specs.Contexts.{IsMadeAs}
 use Rattle.int_polyhedra.specs.declared.system.System.{System}
-use Rattle.last_writer.specs.Answers.{answered_context}
+use Rattle.stride_trees.specs.Answers.{answered_context}
 use Rattle.stride_trees.specs.Answers.{HasSmallRows}
-use Rattle.last_writer.specs.Leaves.{context_of, IsAnswered}
-use Rattle.last_writer.specs.Writers.{AreWriters, IsAskedRead, IsReadOf}
-use Rattle.last_writer.specs.declared.leaves.Answered.{Answered}
-use Rattle.last_writer.specs.declared.writers.Writer.{Writer}
-use Rattle.last_writer.proofs.Below.{answered_none}
-use Rattle.last_writer.proofs.JointTrees.{reader_fits}
+use Rattle.stride_trees.specs.Leaves.{context_of}
+use Rattle.stride_trees.specs.Writers.{IsReadOf}
+use Rattle.last_writer.specs.Writers.{AreWriters, HasAllWriters, IsAskedRead}
+use Rattle.stride_trees.specs.declared.leaves.Answered.{Answered}
+use Rattle.stride_trees.specs.declared.writers.Writer.{Writer}
+use Rattle.stride_trees.proofs.Below.{answered_none}
+use Rattle.stride_trees.proofs.ReadBounds.{reader_fits}
 use Rattle.last_writer.proofs.ReadClass.{reader_there, IsThere}
 use Rattle.source_tree.specs.declared.reference.Reference.{Reference}
 use Rattle.tree_graphs.proofs.MadeRows.{are_root, AreRoot}
@@ -67,8 +68,8 @@ gathered n r statements no_tests tests own_tests no_writers writers own_writers 
 -- no test has an answer
 pub begun : (w : Answered) (n : Nest) (r : Reference) → w.nest.now ≡ n → w.read ≡ r → IsAskedRead n r
     → AreWriters n (occurrence_of r) (array_writes n (occurrence_of r)) w.tests.now w.writers.now → w.answers.now ≡ []
-    → IsAnswered w
-begun w n r nest read asked writers none = record {
+    → w.only ≡ None → HasAllWriters w
+begun w n r nest read asked writers none only = record {
   read = subst (λ n. IsReadOf n w.read) (sym nest) (subst (IsReadOf n) (sym read) asked.read);
   writers = subst (λ n. AreWriters n (occurrence_of w.read) (array_writes n (occurrence_of w.read)) w.tests.now
       w.writers.now) (sym nest)
@@ -76,6 +77,7 @@ begun w n r nest read asked writers none = record {
       writers);
   few = omega (arith, writers.few, asked.few);
   answers = omega (arith, ap length none);
+  every = only;
 }
 
 -- The context
@@ -89,10 +91,10 @@ root_is w none =
 abbrev pub reader_rows : Reference → System
 reader_rows r = record { vars = length r.statement.now.loops; rows = r.statement.now.rows }
 
-module _ (w : Answered) (context : System) (h : IsAnswered w) (none : w.answers.now ≡ [])
+module _ (w : Answered) (context : System) (h : HasAllWriters w) (none : w.answers.now ≡ [])
     (is : context ≡ reader_rows w.read) where
   root : AreRoot (length w.read.statement.now.loops) w.read.statement.now.rows
-  root = are_root (length w.read.statement.now.loops) w.read.statement.now.rows (reader_fits w h).rows_fit
+  root = are_root (length w.read.statement.now.loops) w.read.statement.now.rows (reader_fits w.nest.now w.read h.read).rows_fit
 
   pub root_made : IsMadeAs context (context_of w)
   root_made =

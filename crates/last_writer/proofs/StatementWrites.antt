@@ -13,7 +13,8 @@ use Rattle.std.proofs.lemmas.List.Sums.{sum_by-cons}
 use Rattle.std.proofs.lemmas.Bool.{and_parts}
 use Rattle.tree_join.proofs.LevelCounts.{has_level}
 use Rattle.tree_order.specs.Candidates.{levels_before}
-use Rattle.last_writer.specs.Writers.{stands_before, IsReadOf}
+use Rattle.stride_trees.specs.Writers.{IsReadOf}
+use Rattle.last_writer.specs.Writers.{stands_before}
 use Rattle.tree_graphs.proofs.Just.{written_number}
 use Rattle.source_tree.specs.declared.reference.Reference.{Reference}
 use Rattle.sanlp.specs.declared.nest.Nest.{Nest}

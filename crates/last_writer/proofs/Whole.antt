@@ -1,20 +1,14 @@
--- The systems of a leaf, writer by writer.
---
--- A joined leaf's proofs are for the writers whose tests all say yes, in order; a leaf of the nest wants them for all
--- writers of the array. Those that stand at no level before the read have no systems, so both lists of systems go
--- writer by writer through those that were gathered.
+-- The systems of all writers of an array are those of the writers that were gathered: the others stand at no level before the
+-- read, and have no systems.
 use Rattle.std.proofs.Common.{◌≡◌, ℕ, List, [], ◌∷◌, ◌++◌, map, Bool, true, false}
 use Rattle.std.proofs.Common.{cond, refl, sym, ap, ◌∙◌, arith}
-use Rattle.std.specs.Prelude.{All, nat_lt}
+use Rattle.std.specs.Prelude.{nat_lt}
 use Rattle.std.specs.List.{filter, flat_map}
 use Rattle.std.proofs.lemmas.List.{nil_from_length}
-use Rattle.std.proofs.lemmas.List.Elements.{All-head, All-tail}
 use Rattle.tree_order.specs.Candidates.{levels_before}
-use Rattle.tree_graphs.specs.Joint.{write_systems_of}
 use Rattle.tree_join.proofs.LevelCounts.{level_rows_count}
-use Rattle.last_writer.specs.Leaves.{is_told, own_systems, told_pair, told_pairs, told_systems}
-use Rattle.last_writer.specs.Writers.{stands_before, AreWriters, IsWriterOf}
-use Rattle.last_writer.specs.declared.writers.Writer.{Writer}
+use Rattle.last_writer.specs.Writers.{stands_before, AreWriters}
+use Rattle.stride_trees.specs.declared.writers.Writer.{Writer}
 use Rattle.sanlp.specs.declared.nest.Nest.{Nest}
 use Rattle.source_tree.specs.Places.{before_rows}
 use Rattle.source_tree.specs.Rows.{RowExpr}
@@ -22,21 +16,6 @@ use Rattle.source_tree.specs.Systems.{Context, Occurrence, array_writes, every, 
 use Rattle.source_tree.specs.Systems.{write_systems, writer_place}
 use Rattle.stride_trees.specs.Strides.{write_of}
 use Rattle.stride_trees.specs.declared.divisions.Division.{Division}
-
-module _ (answers : List Bool) (c : Context) (further : Occurrence → List (List RowExpr)) where
-  -- the systems of the writes that are joined
-  pub told_are : (writers : List Writer) → flat_map (told_systems answers c further) writers
-      ≡ write_systems_of every (told_pairs c.vars answers writers) c further
-  told_are [] = refl
-  told_are (w ∷ writers) = go (is_told answers w) (told_are writers) where
-    go : (b : Bool) → flat_map (told_systems answers c further) writers
-        ≡ write_systems_of every (told_pairs c.vars answers writers) c further
-        → cond b (write_systems (told_pair c.vars w).read every c further (told_pair c.vars w).write) []
-        ++ flat_map (told_systems answers c further) writers
-        ≡ write_systems_of every (map (told_pair c.vars) (cond b (w ∷ filter (is_told answers) writers)
-        (filter (is_told answers) writers))) c further
-    go true rest = ap (λ xs. write_systems (told_pair c.vars w).read every c further (told_pair c.vars w).write ++ xs) rest
-    go false rest = rest
 
 -- a write at no level before the read has no systems
 pub no_systems : (r u : Occurrence) (c : Context) (further : Occurrence → List (List RowExpr))
@@ -60,23 +39,12 @@ filtered f p none (x ∷ xs) = go (p x) refl (filtered f p none xs) where
   go true e rest = ap (λ ys. f x ++ ys) rest
   go false e rest = rest ∙ ap (λ ys. ys ++ flat_map f xs) (sym (none x e))
 
-of_writers : (n : Nest) (r : Occurrence) (tests : List Division) (c : Context)
-    (further : Occurrence → List (List RowExpr)) (writers : List Writer) → All (IsWriterOf n r tests) writers
-    → flat_map (own_systems c further) writers
-    ≡ flat_map (write_systems r every c further) (map (λ (w : Writer). write_of w.strides) writers)
-of_writers n r tests c further [] h = refl
-of_writers n r tests c further (w ∷ writers) h =
-    ap (λ (r : Occurrence). write_systems r every c further (write_of w.strides)
-    ++ flat_map (own_systems c further) writers) (All-head (IsWriterOf n r tests) w writers h).read
-    ∙ ap (λ xs. write_systems r every c further (write_of w.strides) ++ xs)
-    (of_writers n r tests c further writers (All-tail (IsWriterOf n r tests) w writers h))
-
 -- the systems of all writes of the array
 pub own_are : (n : Nest) (r : Occurrence) (tests : List Division) (c : Context)
     (further : Occurrence → List (List RowExpr)) (writers : List Writer)
     → AreWriters n r (array_writes n r) tests writers
-    → flat_map (own_systems c further) writers ≡ flat_map (write_systems r every c further) (array_writes n r)
+    → flat_map (write_systems r every c further) (map (λ (w : Writer). write_of w.strides) writers)
+    ≡ flat_map (write_systems r every c further) (array_writes n r)
 own_are n r tests c further writers h =
-    of_writers n r tests c further writers h.each
-    ∙ ap (flat_map (write_systems r every c further)) h.are
+    ap (flat_map (write_systems r every c further)) h.are
     ∙ filtered (write_systems r every c further) (stands_before r) (λ u. no_systems r u c further) (array_writes n r)

@@ -9,12 +9,11 @@ use Rattle.std.specs.List.{AllZip, filter}
 use Rattle.std.proofs.lemmas.List.{append-nil, append_assoc, map-append}
 use Rattle.std.proofs.lemmas.List.Elements.{All-append, All-cons, All-contains, All-nil, All-weaker, filter-append}
 use Rattle.std.proofs.lemmas.List.Sums.{sum_by_push}
-use Rattle.last_writer.specs.Leaves.{HasWriter, IsRefusalAmong}
-use Rattle.last_writer.specs.Writers.{no_place, stands_before, AddsPlaces, AddsTests, AreWriters, IsPlaceBy, IsPlaceOf}
-use Rattle.last_writer.specs.Writers.{IsTestAt, IsWriterOf}
-use Rattle.last_writer.specs.declared.leaves.Refusal.{Refusal}
-use Rattle.last_writer.specs.declared.writers.Writer.{Writer}
-use Rattle.plain_data.proofs.Lists.{slice_get-append_some}
+use Rattle.stride_trees.specs.Writers.{asked, no_place, unasked, IsPlaceOf}
+use Rattle.last_writer.specs.Writers.{stands_before, AddsPlaces, AddsTests, AreWriters}
+use Rattle.stride_trees.specs.Writers.{IsTestAt, IsWriterOf}
+use Rattle.stride_trees.specs.declared.writers.Writer.{Writer}
+use Rattle.plain_data.proofs.Lists.{slice_get-append_right, slice_get-append_some}
 use Rattle.sanlp.specs.declared.nest.Nest.{Nest}
 use Rattle.source_tree.specs.Systems.{Occurrence}
 use Rattle.tree_cuts.specs.Class.{stride_count}
@@ -35,10 +34,8 @@ test_kept tests more d place at =
 
 place_kept : (tests more : List Division) (d : Division) (place : ℕ) → IsPlaceOf tests d place
     → IsPlaceOf (tests ++ more) d place
-place_kept tests more d place = go (never_divides d) where
-  go : (b : Bool) → IsPlaceBy b tests d place → IsPlaceBy b (tests ++ more) d place
-  go true at = at
-  go false at = test_kept tests more d place at
+place_kept tests more d place (asked at) = asked (test_kept tests more d place at)
+place_kept tests more d place (unasked never same) = unasked never same
 
 places_kept : (tests more ds : List Division) (places : List ℕ) → AllZip (IsPlaceOf tests) ds places
     → AllZip (IsPlaceOf (tests ++ more)) ds places
@@ -50,7 +47,25 @@ places_kept tests more (d ∷ ds) (place ∷ places) at =
 
 -- a test that is never asked, and one that is
 pub place_never : (tests : List Division) (d : Division) → never_divides d ≡ true → IsPlaceOf tests d no_place
-place_never tests d never = subst (λ b. IsPlaceBy b tests d no_place) (sym never) refl
+place_never tests d never = unasked never refl
+
+pub place_found : (tests given : List Division) (d : Division) (place : ℕ) → given ≡ tests
+    → (k : ℕ) × (place ≡ 0 + k) × IsTestAt given d k → IsPlaceOf tests d place
+place_found tests given d place same (k, is, at) =
+    let here : k ≡ place = omega (arith, is) in
+    asked (subst (IsTestAt tests d) here (subst (λ ts. IsTestAt ts d k) same at))
+
+pub place_added : (old new : List Division) (d : Division) (place : ℕ) → new ≡ old ++ d ∷ [] → place ≡ length old
+    → IsPlaceOf new d place
+place_added old new d place grown is =
+    let here : place ≡ length old + 0 = omega (arith, is) in
+    asked (record {
+      test = d;
+      is = ap (λ ts. slice_get ts place) grown ∙ ap (slice_get (old ++ d ∷ [])) here
+          ∙ slice_get-append_right old (d ∷ []) 0;
+      form = refl;
+      divisor = refl;
+    })
 
 pub test_here : (first : Division) (tests : List Division) (d : Division) → first.form ≡ d.form
     → first.divisor ≡ d.divisor → IsTestAt (first ∷ tests) d 0
@@ -183,16 +198,3 @@ one_writer n r before old tests writers new x w h says of is adds few e = record
 
 pub few_of : (s : Strides) → length (tests_of s) ≤ stride_count (write_of s)
 few_of s = tests_count 0 s.write.access.now.subscripts s.read.access.now.subscripts
-
--- Writers and tests by their places
-
-pub has_behind : (w : Writer) (ws : List Writer) (number : ℕ) → HasWriter (w ∷ ws) number
-    → (w.strides.write.number ≡ number → ⊥) → HasWriter ws number
-has_behind w ws number (x, (zero, lt, is), e) other =
-    absurd (other (ap (λ (w : Writer). w.strides.write.number) is ∙ e))
-has_behind w ws number (x, (suc k, lt, is), e) other = (x, (k, omega (arith, lt), is), e)
-
-pub refusal_behind : (answers : List Bool) (d : Division) (p : ℕ) (ds : List Division) (ps : List ℕ) (refusal : Refusal)
-    → IsRefusalAmong answers ds ps refusal → IsRefusalAmong answers (d ∷ ds) (p ∷ ps) refusal
-refusal_behind answers d p ds ps refusal h =
-    record { number = suc h.number; division = h.division; place = h.place; no = h.no }

@@ -1,4 +1,1 @@
-pub mod Answers
-pub mod Converted
-pub mod Leaves
 pub mod Writers

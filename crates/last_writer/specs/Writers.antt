@@ -1,37 +1,18 @@
--- The writers of a read's array, and their tests of divisibility, each once.
-use Rattle.std.specs.Prelude.{◌≡◌, ◌≤◌, ◌==◌, ℕ, Bool, true, false, List, ◌++◌, map, length, nat_lt, All, Some, Contains, slice_get, IsTrue}
-use Rattle.std.specs.List.{AllZip, filter, list_all, list_any, sum_by}
+-- All writers of a read's array, and their tests of divisibility, each once.
+use Rattle.std.specs.Prelude.{◌≡◌, ◌≤◌, ℕ, Bool, List, ◌++◌, map, length, nat_lt, None, All, Contains, IsTrue}
+use Rattle.std.specs.List.{AllZip, filter, list_all, sum_by}
 use Rattle.tree_order.specs.Candidates.{levels_before}
-use Rattle.last_writer.specs.declared.writers.Writer.{Writer}
 use Rattle.source_tree.specs.declared.reference.Reference.{Reference}
 use Rattle.sanlp.specs.declared.nest.Nest.{Nest}
 use Rattle.source_tree.specs.Systems.{array_writes, Occurrence}
 use Rattle.source_tree.specs.References.{occurrence_of}
 use Rattle.tree_cuts.specs.Class.{stride_count, writes_strides}
 use Rattle.stride_trees.specs.Answers.{IsSmallTest}
-use Rattle.stride_trees.specs.Divisions.{never_divides}
-use Rattle.stride_trees.specs.Strides.{read_of, tests_of, write_of, IsStrided}
+use Rattle.stride_trees.specs.Strides.{write_of}
+use Rattle.stride_trees.specs.Writers.{IsPlaceOf, IsReadOf, IsWriterOf}
 use Rattle.stride_trees.specs.declared.divisions.Division.{Division}
-
--- the test at this place has the form and the divisor of this one
-pub record IsTestAt (tests : List Division) (d : Division) (place : ℕ) : Type 0 where
-  pub test : Division
-  pub is : slice_get tests place ≡ Some test
-  pub form : test.form ≡ d.form
-  pub divisor : test.divisor ≡ d.divisor
-
--- The place of a test that says no by its form alone: it isn't among the tests that are asked, which have lower places.
-abbrev pub no_place : ℕ
-no_place = 6
-
--- the place of a test: whether its form alone says no comes first
-abbrev pub IsPlaceBy : Bool → List Division → Division → ℕ → Type 0
-IsPlaceBy true tests d place = place ≡ no_place
-IsPlaceBy false tests d place = IsTestAt tests d place
-
--- the place of a test of a writer
-abbrev pub IsPlaceOf : List Division → Division → ℕ → Type 0
-IsPlaceOf tests d place = IsPlaceBy (never_divides d) tests d place
+use Rattle.stride_trees.specs.declared.leaves.Answered.{Answered}
+use Rattle.stride_trees.specs.declared.writers.Writer.{Writer}
 
 -- tests of these were added at the end, none of them twice
 pub record AddsTests (from old new : List Division) : Type 0 where
@@ -45,24 +26,6 @@ pub record AddsPlaces (tests divisions : List Division) (old new : List ℕ) : T
   pub more : List ℕ
   pub grown : new ≡ old ++ more
   pub places : AllZip (IsPlaceOf tests) divisions more
-
--- a writer of the read's array, with its tests and their places among the tests of all writers
-pub record IsWriterOf (n : Nest) (r : Occurrence) (tests : List Division)
-    (w : Writer) : Type 0 where
-  pub strided : IsStrided w.strides
-  pub nest : w.strides.nest.now ≡ n
-  pub read : read_of w.strides ≡ r
-  pub divisions : w.divisions ≡ tests_of w.strides
-  pub places : AllZip (IsPlaceOf tests) w.divisions w.places
-
--- one of its tests says no by its form alone: so it has no write before the read
-abbrev pub is_never : Writer → Bool
-is_never w = list_any (λ place. place == no_place) w.places
-
--- the reference is a read of its statement
-pub record IsReadOf (n : Nest) (r : Reference) : Type 0 where
-  pub statement : slice_get n.statements r.number ≡ Some r.statement.now
-  pub access : (k : ℕ) × (slice_get r.statement.now.reads k ≡ Some r.access.now)
 
 -- the reference is a read of the stride class
 pub record IsAskedRead (n : Nest) (r : Reference) : Type 0 where
@@ -81,3 +44,12 @@ pub record AreWriters (n : Nest) (r : Occurrence) (writes : List Occurrence) (te
   pub are : map (λ w. write_of w.strides) writers ≡ filter (stands_before r) writes
   pub small : All (IsSmallTest (length r.statement.loops)) tests
   pub few : length tests ≤ sum_by stride_count writes
+
+-- All writers of the read's array, for every level of order, and answers to the first of their tests.
+pub record HasAllWriters (w : Answered) : Type 0 where
+  pub read : IsReadOf w.nest.now w.read
+  pub writers : AreWriters w.nest.now (occurrence_of w.read)
+      (array_writes w.nest.now (occurrence_of w.read)) w.tests.now w.writers.now
+  pub few : length w.tests.now ≤ 6
+  pub answers : length w.answers.now ≤ length w.tests.now
+  pub every : w.only ≡ None

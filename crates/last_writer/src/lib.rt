@@ -6,7 +6,6 @@
 #![tactic(auto)]
 
 mod class;
-mod leaves;
 mod source;
 mod writers;
 

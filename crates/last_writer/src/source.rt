@@ -1,11 +1,12 @@
-ghost use Rattle.std.specs.Prelude.{◌≡◌, ◌≤◌, ◌<◌, ◌+◌, ◌*◌, ◌≤ℤ◌, ◌^◌, ◌++◌, [], ◌∷◌, ℕ, pos, false, if◌then◌else◌, length, slice_get, All, Some, None, IfOk, IsTrue, MatchOption, OnOk};
+ghost use Rattle.std.specs.Prelude.{◌≡◌, ◌≤◌, ◌<◌, ◌+◌, ◌*◌, ◌≤ℤ◌, ◌^◌, ◌++◌, [], ◌∷◌, ℕ, pos, false, length, slice_get, All, Some, None, IfOk, IsTrue, MatchOption, OnOk, if◌then◌else◌};
 ghost use Rattle.affine_core.specs.Affine.{widened_form};
 ghost use Rattle.tree_graphs.specs.Contexts.{IsMadeAs};
 ghost use Rattle.tree_order.specs.Reads.{pairs_with};
 ghost use Rattle.tree_order.specs.declared.candidates.Read.{Read as ReadOf};
-ghost use Rattle.last_writer.specs.Answers.{answered_context};
-ghost use Rattle.last_writer.specs.Leaves.{context_of, fact_context, told_pairs, vars_of, HasFacts, IsAnswered};
-ghost use Rattle.last_writer.specs.Writers.{AreWriters, IsAskedRead, IsWriterOf};
+ghost use Rattle.stride_trees.specs.Answers.{answered_context};
+ghost use Rattle.stride_trees.specs.Leaves.{context_of, fact_context, told_pairs, vars_of, HasFacts};
+ghost use Rattle.stride_trees.specs.Writers.{IsWriterOf};
+ghost use Rattle.last_writer.specs.Writers.{AreWriters, HasAllWriters, IsAskedRead};
 ghost use Rattle.source_tree.specs.Checked.{IsChecked, IsCheckedIn};
 ghost use Rattle.source_tree.specs.Exact.{IsExact};
 ghost use Rattle.source_tree.specs.Systems.{array_writes, every, read_at, root_context, Context, Occurrence};
@@ -17,15 +18,17 @@ ghost use Rattle.stride_trees.specs.Contexts.{IsNoIn};
 ghost use Rattle.stride_trees.specs.Divisions.{always_divides};
 ghost use Rattle.source_tree.specs.References.{occurrence_of};
 
-use crate::leaves::{Answered, converted, refusal_of};
-use crate::writers::{Writer, push_writers};
+use crate::writers::push_writers;
 use affine_core::{KeptForm, KeptNumber};
 use int_polyhedra::System;
 use plain_data::{Boxed, Items};
 use sanlp::{Nest, Statement};
 use source_tree::{Reference, Tree};
 use std::alloc::{AllocError, Global};
-use stride_trees::{Division, always_divides, below_test, no_is_nowhere, problem_of};
+use stride_trees::{
+    Answered, Division, Writer, always_divides, below_test, converted, no_is_nowhere, problem_of,
+    refusal_of,
+};
 use tree_facts::{Tests, facts_of, with_facts};
 use tree_graphs::{Problem, system_of};
 use tree_join::join;
@@ -33,7 +36,7 @@ use tree_order::Read;
 
 // How many variables there are below all tests.
 fn vars_in(w: &Answered) -> usize
-    requires { IsAnswered w.now }
+    requires { HasAllWriters w.now }
     ensures { result ≡ vars_of w.now }
 {
     w.read.statement.loops.len() + w.tests.len()
@@ -45,7 +48,7 @@ fn push_problems<'a>(
     w: &Answered<'a>,
     writers: &'a [Writer<'a>],
 ) -> Result<(), AllocError>
-    requires answered { IsAnswered w.now }
+    requires answered { HasAllWriters w.now }
     requires writers { All (IsWriterOf w.now.nest.now (occurrence_of w.now.read) w.now.tests.now)
         writers.now }
     ensures { OnOk result ((r : ReadOf) → r.reference ≡ w.now.read
@@ -81,7 +84,7 @@ fn read_with<'a>(w: &Answered<'a>, context: &'a System, problems: &'a [Problem<'
 
 // The tree in a context with the facts of that where all tests have an answer.
 fn joined_in<'a>(w: &Answered<'a>, there: &'a System) -> Result<Tree, AllocError>
-    requires answered { IsAnswered w.now }
+    requires answered { HasAllWriters w.now }
     requires all { length w.now.answers.now ≡ length w.now.tests.now }
     requires facts { HasFacts w.now }
     requires made { IsMadeAs there.now (fact_context w.now []) }
@@ -110,7 +113,7 @@ fn tests_in<'a>(w: &Answered<'a>) -> Tests<'a>
 
 // The tree where all tests of divisibility have an answer.
 fn joined<'a>(w: &Answered<'a>, context: &'a System) -> Result<Tree, AllocError>
-    requires answered { IsAnswered w.now }
+    requires answered { HasAllWriters w.now }
     requires all { length w.now.answers.now ≡ length w.now.tests.now }
     requires made { IsMadeAs context.now (context_of w.now) }
     requires rows { HasSmallRows context.now }
@@ -170,7 +173,7 @@ fn next_test<'a>(w: &Answered<'a>) -> Option<&'a Division>
 // The tree below the answers, whose context this is.
 #[cycle(answered)]
 fn answered<'a>(w: &Answered<'a>, context: &'a System) -> Result<Tree, AllocError>
-    requires answered { IsAnswered w.now }
+    requires answered { HasAllWriters w.now }
     requires made { IsMadeAs context.now (context_of w.now) }
     requires rows { HasSmallRows context.now }
     requires count { length context.now.rows
@@ -226,7 +229,7 @@ fn answered_next<'a>(
     test: &Division,
     answer: bool,
 ) -> Result<Tree, AllocError>
-    requires answered { IsAnswered w.now }
+    requires answered { HasAllWriters w.now }
     requires made { IsMadeAs context.now (context_of w.now) }
     requires rows { HasSmallRows context.now }
     requires count { length context.now.rows
@@ -283,7 +286,7 @@ fn unanswered<'a>(
     requires asked { IsAskedRead nest.now read.now }
     requires writers { AreWriters nest.now (occurrence_of read.now)
         (array_writes nest.now (occurrence_of read.now)) tests.now writers.now }
-    ensures answered { IsAnswered result }
+    ensures answered { HasAllWriters result }
     ensures nest { result.nest.now ≡ nest.now }
     ensures read { result.read ≡ read.now }
     ensures answers { result.answers.now ≡ [] }
@@ -297,6 +300,7 @@ fn unanswered<'a>(
         answers: &[],
         cuts: &[],
         facts: &[],
+        only: None,
     }
 }
 

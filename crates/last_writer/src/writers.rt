@@ -1,7 +1,8 @@
 ghost use Rattle.std.specs.Prelude.{◌≡◌, ◌<◌, ◌≤◌, ◌≤ℤ◌, ◌+◌, ◌^◌, [], ◌∷◌, ◌++◌, ℕ, pos, List, drop, length, All, None, Some, slice_get, IfOk, IfSome, IsTrue, MatchOption, OnOk};
 ghost use Rattle.std.specs.List.{list_all, sum_by};
-ghost use Rattle.last_writer.specs.Writers.{AddsPlaces, AddsTests, AreWriters, IsPlaceOf, IsReadOf, IsTestAt, IsWriterOf};
-ghost use Rattle.source_tree.specs.Systems.{read_at, with_write, write_to as write_of, writes_from, Occurrence};
+ghost use Rattle.stride_trees.specs.Writers.{IsPlaceOf, IsReadOf, IsTestAt, IsWriterOf};
+ghost use Rattle.last_writer.specs.Writers.{AddsPlaces, AddsTests, AreWriters};
+ghost use Rattle.source_tree.specs.Systems.{with_write, write_to as write_of, writes_from, Occurrence};
 ghost use Rattle.tree_cuts.specs.Class.{stride_count, writes_strides};
 ghost use Rattle.stride_trees.specs.Strides.{read_of, tests_of, write_of as strides_write, AreStrided, IsStrided};
 ghost use Rattle.source_tree.specs.References.{occurrence_of};
@@ -10,21 +11,8 @@ use plain_data::Items;
 use sanlp::{Nest, Statement, common_loops};
 use source_tree::Reference;
 use std::alloc::{AllocError, Global};
-use stride_trees::{Division, Strides, divisions_of, never_divides};
+use stride_trees::{Division, NO_PLACE, Strides, Writer, divisions_of, never_divides};
 use tree_order::level_count;
-
-/// The place of a test that says no by its form alone, which is never asked. Those that are asked have lower places.
-pub const NO_PLACE: u32 = 6;
-
-/// A write of the read's array that stands before the read at some level of order. `divisions` are its tests of
-/// divisibility, in the order of its subscripts, and `places` tells which of the tests of all writers each of them is, or
-/// `NO_PLACE`.
-#[derive(Drop)]
-pub struct Writer<'a> {
-    pub strides: Strides<'a>,
-    pub divisions: Items<Division>,
-    pub places: Items<u32>,
-}
 
 /// The statement's write, if it writes this array.
 pub fn write_to<'a>(array: u32, number: u32, statement: &'a Statement) -> Option<Reference<'a>>

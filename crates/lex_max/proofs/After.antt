@@ -32,7 +32,7 @@ use Rattle.tree_graphs.specs.Simple.{IsLightSum}
 use Rattle.tree_graphs.specs.declared.edges.Edge.{Edge}
 use Rattle.tree_graphs.specs.declared.writes.Writes.{Writes}
 use Rattle.lex_max.proofs.PointSystems.{Opposes}
-use Rattle.tree_graphs.proofs.ProblemBounds.{asked_fits, IsKnown}
+use Rattle.tree_graphs.proofs.ProblemBounds.{writes_fit, IsKnown}
 use Rattle.lex_max.proofs.LeafParts.{less_opposes, place_taken, shown_refuted, place_taken_here}
 use Rattle.lex_max.proofs.Levels.{later_row, of_level, same_at, sooner_row, AreOfLevel}
 use Rattle.tree_graphs.proofs.Differences.{past_part}
@@ -82,7 +82,7 @@ module _ (w : Writes) (c : Context) (context : System) (place : List Form) (here
   readers = reader_place (read_of w)
 
   abbrev fits : IsKnown w.vars (read_of w) (write_of w) w.level
-  fits = asked_fits w leaf.asked
+  fits = writes_fit w
 
   own : AreOfLevel (common_of (write_of w) (read_of w)) w.level place readers level
   own = of_level (common_of (write_of w) (read_of w)) w.level

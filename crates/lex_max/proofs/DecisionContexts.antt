@@ -23,7 +23,7 @@ use Rattle.int_polyhedra.specs.Systems.{AreOver}
 use Rattle.int_polyhedra.proofs.Variables.{length_zeros}
 use Rattle.lex_max.specs.Answer.{IsContextOf}
 use Rattle.tree_graphs.specs.Cycles.{IsContradiction, IsCycle}
-use Rattle.tree_graphs.specs.Asked.{depth_of_write, IsAsked}
+use Rattle.tree_graphs.specs.Asked.{depth_of_write}
 use Rattle.lex_max.specs.Choices.{choices_left, upper_of, uppers_from, uppers_of, AllNone, AreCerts}
 use Rattle.lex_max.specs.Choices.{AreCertsSoFar, AreChoices, AreChosen, AreNoLess, AreReady, IsChoice, IsChoosing}
 use Rattle.lex_max.specs.Choices.{IsNextChoice, with_terms}
@@ -38,7 +38,7 @@ use Rattle.tree_graphs.specs.declared.writes.Writes.{Writes}
 use Rattle.lex_max.proofs.LeastForm.{choice_behind, choices_behind, choices_push}
 use Rattle.tree_graphs.proofs.FactSums.{fact_behind, fact_same, fact_weaker}
 use Rattle.lex_max.proofs.LeastForm.{kept_none, kept_some, switched_to}
-use Rattle.tree_graphs.proofs.ProblemBounds.{asked_fits}
+use Rattle.tree_graphs.proofs.ProblemBounds.{writes_fit}
 use Rattle.tree_graphs.proofs.EdgeSums.{over_append}
 use Rattle.tree_graphs.proofs.ZeroCycles.{opposite_coefficient, opposite_constant, opposite_contradicts}
 use Rattle.tree_graphs.proofs.Small.{negative_over, opposite_form, opposite_within}
@@ -56,9 +56,9 @@ use Rattle.tree_sums.proofs.Within.{IsWithin-weaker}
 abbrev pub IsMore : System → System → Form → Type 0
 IsMore context more row = more ≡ record context { rows = context.rows ++ row ∷ [] }
 
-pub context_is : (w : Writes) (room : ℕ) (context : System) → IsAsked w → IsContextOf w room context → IsContext context
-context_is w room context asked of = record {
-  short = omega (arith, of.vars, (asked_fits w asked).few_vars);
+pub context_is : (w : Writes) (room : ℕ) (context : System) → IsContextOf w room context → IsContext context
+context_is w room context of = record {
+  short = omega (arith, of.vars, (writes_fit w).few_vars);
   over = of.over;
   few = omega (arith, of.few);
 }
@@ -372,11 +372,12 @@ module _ (w : Writes) (edges : List Edge) (bounds : Bounds) (ready : AreReady w 
   pub some_upper : (v : ℕ) (forms : List (Option Form)) → v < depth → forms ≡ uppers_of depth bounds edges v
       → AllNone forms → ⊥
   some_upper v forms lt is none =
-      let u : HasUpper w edges bounds ready v = has_upper w edges bounds ready v lt in
+      has_upper w edges bounds ready v lt
+      (λ (u : HasUpper w edges bounds ready v).
       let here : slice_get forms u.number ≡ Some (Some u.form) = ap (λ fs. slice_get fs u.number) is ∙ u.is in
       let gone : Some u.form ≡ None =
       All-slice_get (λ (form : Option Form). form ≡ None) forms u.number (Some u.form) none here in
-      cc
+      cc)
 
   pub few_uppers : (v : ℕ) (forms : List (Option Form)) → forms ≡ uppers_of depth bounds edges v → length forms ≤ 56
   few_uppers v forms is = omega (arith, ap length is, length-map edges (upper_of depth bounds v), ready.graph.graph.few)

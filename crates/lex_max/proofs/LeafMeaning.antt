@@ -30,7 +30,7 @@ use Rattle.tree_graphs.specs.Rounds.{IsGraphOf}
 use Rattle.tree_graphs.specs.declared.edges.Edge.{Edge}
 use Rattle.tree_graphs.specs.declared.writes.Writes.{Writes}
 use Rattle.tree_graphs.proofs.Differences.{past_part}
-use Rattle.tree_graphs.proofs.ProblemBounds.{asked_fits, IsKnown}
+use Rattle.tree_graphs.proofs.ProblemBounds.{writes_fit, IsKnown}
 use Rattle.lex_max.proofs.RowMeaning.{all_met, all_over_rows, all_rows, base, j_is, no_later, system}
 use Rattle.tree_graphs.proofs.OrderEdges.{length_variables, variable_at, variable_over, variable_within}
 use Rattle.tree_graphs.proofs.EdgeSums.{cycle_shows}
@@ -233,7 +233,7 @@ pub greatest_there : (w : Writes) (context : System) (edges : List Edge) (graph 
     → (x : List ℤ) → length x ≡ w.vars → Meets context.rows x → IsGreatest (read_of w) (write_of w) w.level x
     (At (record { statement = w.write.number; at = values place x }))
 greatest_there w context edges graph of place level certs deep level_is small shown paths x long meets =
-    let fits : IsKnown w.vars (read_of w) (write_of w) w.level = asked_fits w graph.asked in
+    let fits : IsKnown w.vars (read_of w) (write_of w) w.level = writes_fit w in
     let met : AreMet (write_rows (read_of w) (write_of w) level place) x
     = certs_met context place x (write_rows (read_of w) (write_of w) level place) edges certs of.over meets small
     (graph.edges_are place level deep level_is) shown in

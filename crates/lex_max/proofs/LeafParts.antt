@@ -17,7 +17,8 @@ use Rattle.int_polyhedra.specs.declared.system.Proof.TheVariants.{Sum}
 use Rattle.int_polyhedra.specs.declared.system.System.{System}
 use Rattle.int_polyhedra.specs.declared.system.Term.{Term}
 use Rattle.sanlp.specs.WellFormed.{form_fits}
-use Rattle.tree_graphs.specs.Asked.{depth_of_write, IsCell}
+use Rattle.tree_graphs.specs.Asked.{depth_of_write}
+use Rattle.tree_graphs.specs.Problems.{IsCell}
 use Rattle.tree_graphs.specs.Facts.{IsFact}
 use Rattle.lex_max.specs.Leaves.{AddsProofs, IsLeafOf}
 use Rattle.tree_graphs.specs.Paths.{term_of}

@@ -21,7 +21,8 @@ use Rattle.sanlp.specs.Order.{common_loops}
 use Rattle.sanlp.specs.WellFormed.{form_fits}
 use Rattle.sanlp.proofs.Precedence.{common_loops-comm}
 use Rattle.lex_max.specs.Answer.{IsContextOf}
-use Rattle.tree_graphs.specs.Asked.{depth_of_read, depth_of_write, read_of, write_of, AreCells, IsAsked}
+use Rattle.tree_graphs.specs.Asked.{depth_of_read, depth_of_write, read_of, write_of}
+use Rattle.tree_graphs.specs.Problems.{AreCells}
 use Rattle.lex_max.specs.Choices.{AreCerts}
 use Rattle.tree_graphs.specs.Edges.{edge_parts, write_rows, AreEdges}
 use Rattle.lex_max.specs.Leaves.{after_levels, AddsProofs, AreOrderCerts, AreShown, HasAfter, IsAfterProof, IsLeafOf}
@@ -35,7 +36,7 @@ use Rattle.tree_graphs.specs.declared.writes.Writes.{Writes}
 use Rattle.lex_max.proofs.After.{after_above, after_at, after_below, readers_taken}
 use Rattle.lex_max.proofs.After.{same_refuted, swapped_is}
 use Rattle.tree_graphs.proofs.FactSums.{fact_same}
-use Rattle.tree_graphs.proofs.ProblemBounds.{asked_fits, IsKnown}
+use Rattle.tree_graphs.proofs.ProblemBounds.{writes_fit, IsKnown}
 use Rattle.lex_max.proofs.LeafParts.{adds_more_proofs, adds_no_proofs, adds_one_proof, cell_next, outside_next}
 use Rattle.lex_max.proofs.LeafParts.{place_taken, place_taken_here}
 use Rattle.lex_max.proofs.Levels.{of_level, AreOfLevel}
@@ -94,26 +95,25 @@ shown_rest context (x ∷ xs) ys (ts ∷ certs) (suc n) e h = shown_rest context
 
 -- The leaf
 
-pub level_of_place : (w : Writes) (vars : ℕ) (place : List Form) → IsAsked w → IsPlaceOf w place → vars
+pub level_of_place : (w : Writes) (vars : ℕ) (place : List Form) → IsPlaceOf w place → vars
     ≡ w.vars
     → IsSmallLevel vars (before_rows w.write.number w.write.statement.now place w.read.number w.read.statement.now
     (reader_place (read_of w))) w.level
-level_of_place w vars place asked placed vars_is =
-    let f : IsKnown w.vars (read_of w) (write_of w) w.level = asked_fits w asked in
+level_of_place w vars place placed vars_is =
+    let f : IsKnown w.vars (read_of w) (write_of w) w.level = writes_fit w in
     level_at vars (common_of (write_of w) (read_of w)) w.level (nat_lt w.write.number w.read.number) place
     (reader_place (read_of w)) (omega (arith, placed.deep, f.common_loops))
     (omega (arith, length_variables 0 (depth_of_read w), f.common_vars))
-    (level_exists (read_of w) (write_of w) w.level asked.problem.level)
+    (level_exists (read_of w) (write_of w) w.level w.problem.level)
     (place_taken vars w.vars place (omega (arith, vars_is)) placed.over placed.within)
     (variables_taken vars 0 (depth_of_read w) (omega (arith, vars_is, f.reader)))
 
-pub leaf_of : (w : Writes) (c : Context) (context : System) (place : List Form) (here : ℕ) → IsAsked w
+pub leaf_of : (w : Writes) (c : Context) (context : System) (place : List Form) (here : ℕ)
     → IsContextOf w 0 context → IsPlaceOf w place → here ≡ length context.rows
     → c.vars ≡ w.vars → row_forms c.vars c.rows ≡ Some context.rows → IsLeafOf w c context place here
-leaf_of w c context place here asked of placed numbered vars_is rows_is =
+leaf_of w c context place here of placed numbered vars_is rows_is =
     let same : context.vars ≡ c.vars = of.vars ∙ sym vars_is in
     record {
-      asked = asked;
       made = record {
         vars = same;
         rows = rows_is;
@@ -131,11 +131,11 @@ leaf_of w c context place here asked of placed numbered vars_is rows_is =
 abbrev pub plain_of : Writes → System → Context
 plain_of w context = record { vars = w.vars; rows = map Take context.rows }
 
-pub plain_leaf : (w : Writes) (context : System) (place : List Form) (here : ℕ) → IsAsked w → IsContextOf w 0 context
+pub plain_leaf : (w : Writes) (context : System) (place : List Form) (here : ℕ) → IsContextOf w 0 context
     → IsPlaceOf w place → here ≡ length context.rows
     → IsLeafOf w (plain_of w context) context place here
-plain_leaf w context place here asked of placed numbered =
-    leaf_of w (plain_of w context) context place here asked of placed numbered refl
+plain_leaf w context place here of placed numbered =
+    leaf_of w (plain_of w context) context place here of placed numbered refl
     (taken_all w.vars context.rows (subst (λ v. AreOver v context.rows) of.vars of.over))
 
 -- the terms of the order rows
@@ -144,8 +144,8 @@ pub order_certs : (w : Writes) (edges : List Edge) (c : Context) (context : Syst
     → AreCerts context place edges certs → n ≡ length w.rows.now
     + 2 * length w.write_forms.now → AreOrderCerts w here c context place (drop n certs)
 order_certs w edges c context place here n certs graph leaf h n_is =
-    let f : IsKnown w.vars (read_of w) (write_of w) w.level = asked_fits w leaf.asked in
-    let s : IsSmallLevel c.vars _ w.level = level_of_place w c.vars place leaf.asked leaf.placed leaf.vars in
+    let f : IsKnown w.vars (read_of w) (write_of w) w.level = writes_fit w in
+    let s : IsSmallLevel c.vars _ w.level = level_of_place w c.vars place leaf.placed leaf.vars in
     let d : List RowExpr = domain_rows w.rows.now place in
     let cells : List RowExpr = cell_rows w.write_forms.now w.read_forms.now place in
     let shown : AreShown context (write_rows (read_of w) (write_of w) s.rows place) certs
@@ -169,34 +169,34 @@ order_certs w edges c context place here n certs graph leaf h n_is =
 
 -- The reader before the leaf's point
 
-pub level_common : (w : Writes) (l : ℕ) → IsAsked w → HasAfter w l → w.level ≤ l
+pub level_common : (w : Writes) (l : ℕ) → HasAfter w l → w.level ≤ l
     → w.level < common_of (write_of w) (read_of w)
-level_common w l asked has le = elim asked.problem.level [
+level_common w l has le = elim w.problem.level [
   | inl lt ↦ lt
   | inr at ↦ elim has [
     | inl lt ↦ absurd
-        (let e : w.level ≡ common_of (write_of w) (read_of w) = at.0 in omega (arith, e, lt, le, asked.common))
+        (let e : w.level ≡ common_of (write_of w) (read_of w) = at.0 in omega (arith, e, lt, le, w.loops))
     | inr same ↦ absurd (let lt : w.write.number < w.read.number = at.1 in let gt : w.read.number < w.write.number =
         same.1 in omega (arith, lt, gt))
   ]
 ]
 
-pub level_same : (w : Writes) → IsAsked w → w.write.number ≡ w.read.number → w.level < w.common
-level_same w asked same = elim asked.problem.level [
-  | inl lt ↦ omega (arith, lt, asked.common)
+pub level_same : (w : Writes) → w.write.number ≡ w.read.number → w.level < w.common
+level_same w same = elim w.problem.level [
+  | inl lt ↦ omega (arith, lt, w.loops)
   | inr at ↦ absurd (let lt : w.write.number < w.read.number = at.1 in omega (arith, lt, same))
 ]
 
 module _ (w : Writes) (c : Context) (context : System) (place : List Form) (here : ℕ) (order : List (List Term))
     (k : AreOrderCerts w here c context place order) where
   fits : IsKnown w.vars (read_of w) (write_of w) w.level
-  fits = asked_fits w k.leaf.asked
+  fits = writes_fit w
 
   abbrev swapped : ℕ
   swapped = common_loops w.read.statement.now.loops w.write.statement.now.loops
 
   same_common : swapped ≡ w.common
-  same_common = swapped_is w c context place here k.leaf k.level order k.level_is k.shown ∙ sym k.leaf.asked.common
+  same_common = swapped_is w c context place here k.leaf k.level order k.level_is k.shown ∙ sym w.loops
 
   has_level : (l : ℕ) → HasAfter w l → (l < swapped) ⊎ ((l ≡ swapped) × (nat_lt w.read.number w.write.number ≡ true))
   has_level l has = elim has [
@@ -207,8 +207,8 @@ module _ (w : Writes) (c : Context) (context : System) (place : List Form) (here
   level_here : (l : ℕ) → HasAfter w l → IsSmallLevel c.vars (after_levels w place) l
   level_here l has =
       level_at c.vars swapped l (nat_lt w.read.number w.write.number) (reader_place (read_of w)) place
-      (omega (arith, length_variables 0 (depth_of_read w), same_common, k.leaf.asked.common, fits.common_vars))
-      (omega (arith, k.leaf.placed.deep, same_common, k.leaf.asked.common, fits.common_loops))
+      (omega (arith, length_variables 0 (depth_of_read w), same_common, w.loops, fits.common_vars))
+      (omega (arith, k.leaf.placed.deep, same_common, w.loops, fits.common_loops))
       (has_level l has) (readers_taken w c context place here k.leaf k.level order k.level_is k.shown)
       (place_taken_here w c context place here k.leaf)
 
@@ -229,7 +229,7 @@ module _ (w : Writes) (c : Context) (context : System) (place : List Form) (here
       let is : slice_get (after_levels w place) w.level ≡ Some s.rows = ap (slice_get (after_levels w place)) (sym same)
       ∙ s.is in
       let p = after_at w c context place here k.leaf k.level order k.level_is k.shown s.rows row ts proof is
-      (level_common w l k.leaf.asked has (omega (arith, same))) cert row_is proof_is in
+      (level_common w l has (omega (arith, same))) cert row_is proof_is in
       record { rows = s.rows; is = s.is; refuted = p.0; light = p.1 }
 
   pub is_below : (l row : ℕ) (ts : List Term) (proof : Proof) → HasAfter w l → w.level < l
@@ -238,7 +238,7 @@ module _ (w : Writes) (c : Context) (context : System) (place : List Form) (here
   is_below l row ts proof has below cert row_is proof_is =
       let s : IsSmallLevel c.vars (after_levels w place) l = level_here l has in
       let p = after_below w c context place here k.leaf k.level order k.level_is k.shown l s.rows row ts proof s.is
-      (has_level l has) below (level_common w l k.leaf.asked has (omega (arith, below))) cert row_is proof_is in
+      (has_level l has) below (level_common w l has (omega (arith, below))) cert row_is proof_is in
       record { rows = s.rows; is = s.is; refuted = p.0; light = p.1 }
 
   pub is_same : (row : ℕ) (ts : List Term) (proof : Proof) → w.level < w.common → slice_get order (2 * w.level)
@@ -246,7 +246,7 @@ module _ (w : Writes) (c : Context) (context : System) (place : List Form) (here
       → IsRefuted (with_rows c (same_rows (reader_place (read_of w)) place)) proof × IsLightSum proof
   is_same row ts proof common cert row_is proof_is =
       same_refuted w c context place here k.leaf k.level order k.level_is k.shown row ts proof
-      (omega (arith, common, k.leaf.asked.common)) cert row_is proof_is
+      (omega (arith, common, w.loops)) cert row_is proof_is
 
   -- how many terms there are
   own : AreOfLevel (common_of (write_of w) (read_of w)) w.level place (reader_place (read_of w)) k.level
@@ -337,7 +337,7 @@ outside_step w c context place here
     let s : AreShown context (domain_rows (row ∷ rows) place) (ts ∷ rest) =
     subst (AreShown context (domain_rows (row ∷ rows) place)) is shown in
     outside_next w c context place here leaf row rows ts rest proof old middle new b.0
-    (asked_fits w leaf.asked).few_loops s.0 proof_is middle_is (next rows b.1 s.1)
+    (writes_fit w).few_loops s.0 proof_is middle_is (next rows b.1 s.1)
 
 pub cells_end : (c : Context) (context : System) (place writes reads : List Form) (certs : List (List Term))
     (old : List Proof) → certs ≡ [] → AreShown context (cell_rows writes reads place) certs
@@ -377,7 +377,7 @@ cells_step w c context place here (write ∷ writes) (read ∷ reads) above belo
     = subst (AreShown context (cell_rows (write ∷ writes) (read ∷ reads) place))
     (is ∙ ap (λ more. above ∷ more) more_is) shown in
     cell_next w c context place here leaf write read writes reads above below first second old middle middle' new
-    cells.0 (asked_fits w leaf.asked).few_loops s.0 s.1.0 first_is second_is m_is n_is
+    cells.0 (writes_fit w).few_loops s.0 s.1.0 first_is second_is m_is n_is
     (next writes reads cells.1 s.1.1)
 
 -- How many levels there may be

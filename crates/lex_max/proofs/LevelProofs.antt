@@ -18,7 +18,7 @@ use Rattle.int_polyhedra.specs.declared.system.Term.{Term}
 use Rattle.sanlp.specs.Order.{common_loops}
 use Rattle.sanlp.proofs.Precedence.{common_loops-same}
 use Rattle.lex_max.specs.Answer.{IsAnswer, IsContextOf}
-use Rattle.tree_graphs.specs.Asked.{depth_of_write, read_of, write_of, IsAsked}
+use Rattle.tree_graphs.specs.Asked.{depth_of_write, read_of, write_of}
 use Rattle.lex_max.specs.Choices.{chosen_place, AreCerts, AreChosen, AreReady}
 use Rattle.tree_graphs.specs.Edges.{write_rows}
 use Rattle.lex_max.specs.Leaves.{after_levels, AddsProofs, AreOrderCerts, AreShown, IsBetweenProof, IsLeafOf, IsPlaceOf}
@@ -33,7 +33,7 @@ use Rattle.lex_max.proofs.After.{between_refuted}
 use Rattle.lex_max.proofs.LeafProofs.{certs_shown, few_levels, leaf_of, level_of_place}
 use Rattle.lex_max.proofs.LeafProofs.{order_certs, plain_leaf, plain_of, proofs_more, proofs_whole, shown_count}
 use Rattle.lex_max.proofs.LeafProofs.{shown_first, shown_rest}
-use Rattle.tree_graphs.proofs.ProblemBounds.{asked_fits, IsKnown}
+use Rattle.tree_graphs.proofs.ProblemBounds.{writes_fit, IsKnown}
 use Rattle.tree_graphs.proofs.Just.{later_system}
 use Rattle.tree_graphs.proofs.Nodes.{light_sums}
 use Rattle.lex_max.proofs.ChosenPaths.{is_place, led_at, IsLed}
@@ -115,7 +115,7 @@ between_all w edges bounds here n place old new ready n_is h c context leaf =
     let ls : List ℕ = w.write.statement.now.loops in
     let s : IsPlaced (read_of w) (write_of w) w.level c context.rows edges
     = placed w.vars (read_of w)
-    (write_of w) w.level c context.rows edges leaf.asked.problem leaf.vars leaf.made.rows ready.graph.edges_are in
+    (write_of w) w.level c context.rows edges w.problem leaf.vars leaf.made.rows ready.graph.edges_are in
     let few : length (further_levels w c place) ≤ common_loops ls ls + cond (nat_lt w.write.number w.write.number) 1 0
     = few_levels (common_loops ls ls) (nat_lt w.write.number w.write.number) place (writer_place c (write_of w)) in
     let fewer : length (further_levels w c place) ≤ common_loops ls ls + 0 = subst
@@ -162,12 +162,12 @@ leaf_refuted w c place p0 p1 p2 p3 p4 none a b d e =
     )
 
 -- what the rows of the leaf's point are made of is small
-rows_small : (w : Writes) (vars : ℕ) (place : List Form) → IsAsked w → IsPlaceOf w place → vars ≡ w.vars
+rows_small : (w : Writes) (vars : ℕ) (place : List Form) → IsPlaceOf w place → vars ≡ w.vars
     → (s : IsSmallLevel vars (before_rows w.write.number w.write.statement.now place w.read.number w.read.statement.now
     (reader_place (read_of w))) w.level)
     → AreSmall vars (write_rows (read_of w) (write_of w) s.rows place)
-rows_small w vars place asked p vars_is s =
-    let f : IsKnown w.vars (read_of w) (write_of w) w.level = asked_fits w asked in
+rows_small w vars place p vars_is s =
+    let f : IsKnown w.vars (read_of w) (write_of w) w.level = writes_fit w in
     let own : AreTaken vars place = place_taken vars w.vars place (omega (arith, vars_is)) p.over p.within in
     let d : List RowExpr = domain_rows w.rows.now place in
     let cells : List RowExpr = cell_rows w.write_forms.now w.read_forms.now place in
@@ -190,21 +190,27 @@ leaf_answer w edges bounds context choices certs tree place proofs ready of chos
     let own : List Form = chosen_place choices in
     let is : tree ≡ Writer w.write.number own proofs = tree_is
     ∙ ap (λ place. Writer w.write.number place proofs) place_is in
-    let asked : IsAsked w = ready.graph.asked in
     let p : IsPlaceOf w own = is_place w edges bounds ready context choices chosen in
-    let level : IsSmallLevel context.vars _ w.level = level_of_place w context.vars own asked p of.vars in
+    let level : IsSmallLevel context.vars _ w.level = level_of_place w context.vars own p of.vars in
     record {
       checked = λ c vars_is rows_is.
-          at_writer c tree (read_and_write (read_of w) (write_of w)) own proofs is (0, omega arith, refl) p.deep
-          (subst (λ n. All (λ (form : Form). length form.coefs ≡ n) own) (sym vars_is) p.over)
-          (All-weaker (IsWithin (2 ^ 40)) (IsWithin (2 ^ 48))
-          (λ f h. IsWithin-weaker (2 ^ 40) (2 ^ 48) f (omega arith) h) own p.within)
-          (refuted c vars_is rows_is) (light_sums proofs light);
+          at_writer c tree w.write.number own proofs is
+          (record {
+            pair = read_and_write (read_of w) (write_of w);
+            among = (0, omega arith, refl);
+            number_is = refl;
+            deep = p.deep;
+            over = subst (λ n. All (λ (form : Form). length form.coefs ≡ n) own) (sym vars_is) p.over;
+            within = All-weaker (IsWithin (2 ^ 40)) (IsWithin (2 ^ 48))
+                (λ f h. IsWithin-weaker (2 ^ 40) (2 ^ 48) f (omega arith) h) own p.within;
+            refuted = refuted c vars_is rows_is;
+            sums = light_sums proofs light;
+          });
       simple = simple_writer tests tree w.write.number own proofs is p.within light;
       greatest = λ x long meets.
           subst (IsGreatest (read_of w) (write_of w) w.level x) (sym (gives-Writer x tree w.write.number own proofs is))
           (greatest_there w context edges ready.graph of own level.rows certs p.deep level.is
-          (rows_small w context.vars own asked p of.vars level) shown
+          (rows_small w context.vars own p of.vars level) shown
           (λ v lt.
           let choice = has_choice choices v (omega (arith, lt, chosen.all)) in
           let led : IsLed w edges bounds ready v choice.0.edge choice.0.form =
@@ -242,14 +248,14 @@ module _ (w : Writes) (edges : List Edge) (bounds : Bounds) (context : System) (
   cell_part = cell_rows w.write_forms.now w.read_forms.now place
 
   fits : IsKnown w.vars (read_of w) (write_of w) w.level
-  fits = asked_fits w ready.graph.asked
+  fits = writes_fit w
 
   pub placed_here : IsPlaceOf w place
   placed_here = is_place w edges bounds ready context choices chosen
 
   level_here : IsSmallLevel context.vars (before_rows w.write.number w.write.statement.now place w.read.number
       w.read.statement.now (reader_place (read_of w))) w.level
-  level_here = level_of_place w context.vars place ready.graph.asked placed_here of.vars
+  level_here = level_of_place w context.vars place placed_here of.vars
 
   rows_shown : AreShown context (domain_part ++ (cell_part ++ level_here.rows)) certs
   rows_shown =
@@ -293,7 +299,7 @@ module _ (w : Writes) (edges : List Edge) (bounds : Bounds) (context : System) (
   pub leaf_here : (c : Context) (here : ℕ) → here ≡ length context.rows → c.vars ≡ w.vars
       → row_forms c.vars c.rows ≡ Some context.rows → IsLeafOf w c context place here
   leaf_here c here numbered vars_is rows_is =
-      leaf_of w c context place here ready.graph.asked of placed_here numbered vars_is rows_is
+      leaf_of w c context place here of placed_here numbered vars_is rows_is
 
   pub plain_here : (here : ℕ) → here ≡ length context.rows → IsLeafOf w (plain_of w context) context place here
-  plain_here here numbered = plain_leaf w context place here ready.graph.asked of placed_here numbered
+  plain_here here numbered = plain_leaf w context place here of placed_here numbered

@@ -17,3 +17,4 @@ pub mod DecisionContexts
 pub mod ReadAndWrite
 pub mod ReturnEdges
 pub mod ChoiceForms
+pub mod Ready

@@ -17,13 +17,13 @@ use Rattle.sanlp.specs.declared.nest.Statement.{Statement}
 use Rattle.int_polyhedra.specs.Systems.{Meets}
 use Rattle.sanlp.specs.Loops.{all_hold}
 use Rattle.lex_max.specs.Answer.{root_of, IsAnswer}
-use Rattle.tree_graphs.specs.Asked.{depth_of_read, read_of, write_of, AreAsked, HasLevelOf, IsAsked, IsProblem}
+use Rattle.tree_graphs.specs.Asked.{depth_of_read, read_of, write_of, AreAsked, HasLevelOf}
 use Rattle.tree_graphs.specs.Class.{writes_differences, IsInDifferenceClass}
-use Rattle.tree_graphs.specs.Level.{common_of, GivesGreatest, IsGreatest}
+use Rattle.tree_graphs.specs.Level.{GivesGreatest, IsGreatest}
 use Rattle.tree_graphs.specs.Simple.{IsSimple}
 use Rattle.tree_graphs.specs.Joint.{IsCheckedFor}
 use Rattle.tree_graphs.specs.declared.writes.Writes.{Writes}
-use Rattle.tree_graphs.proofs.ProblemBounds.{are_fitting, problem_of, AreFitting}
+use Rattle.tree_graphs.proofs.ProblemBounds.{are_fitting, AreFitting}
 use Rattle.tree_graphs.proofs.Just.{checked_in, written_number}
 use Rattle.lex_max.proofs.Root.{domain_meets}
 use Rattle.tree_graphs.proofs.MadeRows.{are_root}
@@ -113,14 +113,6 @@ pub asked_built : (n : Nest) (s k u p : ℕ) (w : Writes) → IsInDifferenceClas
 asked_built n s k u p w class has read named level =
     subst (AreAsked n (read_of w) (write_of w)) (sym level)
     (asked_of n s k u p (read_of w) (write_of w) class has read named)
-
-pub problem_built : (n : Nest) (w : Writes) → AreAsked n (read_of w) (write_of w) w.level → w.vars ≡ depth_of_read w
-    → w.common ≡ common_of (write_of w) (read_of w) → IsAsked w
-problem_built n w asked vars_is common = record {
-  problem = subst (λ v. IsProblem v (read_of w) (write_of w) w.level) (sym vars_is)
-      (problem_of n (read_of w) (write_of w) w.level asked);
-  common = common;
-}
 
 -- the tree of the reader's whole domain is what is promised
 module _ (n : Nest) (s k u p : ℕ) (w : Writes) (tree : Tree) (asked : AreAsked n (read_of w) (write_of w) w.level)

@@ -26,14 +26,15 @@ use Rattle.sanlp.specs.Loops.{all_hold}
 use Rattle.sanlp.specs.Order.{PrecedesWithin}
 use Rattle.lex_max.specs.Answer.{IsContextOf}
 use Rattle.tree_graphs.specs.Cycles.{IsContradiction}
-use Rattle.tree_graphs.specs.Asked.{depth_of_read, depth_of_write, read_of, write_of, AreCells}
+use Rattle.tree_graphs.specs.Asked.{depth_of_read, depth_of_write, read_of, write_of}
+use Rattle.tree_graphs.specs.Problems.{AreCells}
 use Rattle.tree_graphs.specs.Edges.{write_rows}
 use Rattle.tree_graphs.specs.Level.{common_of, WritesBefore}
 use Rattle.tree_graphs.specs.Paths.{terms_from}
 use Rattle.tree_graphs.specs.Rounds.{IsGraphOf}
 use Rattle.tree_graphs.specs.declared.edges.Edge.{Edge}
 use Rattle.tree_graphs.specs.declared.writes.Writes.{Writes}
-use Rattle.tree_graphs.proofs.ProblemBounds.{asked_fits, IsKnown}
+use Rattle.tree_graphs.proofs.ProblemBounds.{writes_fit, IsKnown}
 use Rattle.tree_graphs.proofs.ZeroSystems.{placed, IsPlaced}
 use Rattle.tree_graphs.proofs.MadeRows.{taken_all}
 use Rattle.tree_graphs.proofs.EdgeSums.{cycle_refutes, whole_over, IsBase}
@@ -74,7 +75,7 @@ module _ (w : Writes) (context : System) (edges : List Edge) (graph : IsGraphOf 
   over = subst (λ v. AreOver v context.rows) of.vars of.over
 
   pub system : IsPlaced (read_of w) (write_of w) w.level plain context.rows edges
-  system = placed w.vars (read_of w) (write_of w) w.level plain context.rows edges graph.asked.problem refl
+  system = placed w.vars (read_of w) (write_of w) w.level plain context.rows edges w.problem refl
       (taken_all w.vars context.rows over) graph.edges_are
 
   abbrev more : ℕ
@@ -94,7 +95,7 @@ module _ (w : Writes) (context : System) (edges : List Edge) (graph : IsGraphOf 
   module _ (x j : List ℤ) (long : length x ≡ w.vars) (meets : Meets context.rows x)
       (h : WritesBefore (read_of w) (write_of w) w.level x j) where
     fits : IsKnown w.vars (read_of w) (write_of w) w.level
-    fits = asked_fits w graph.asked
+    fits = writes_fit w
 
     abbrev place : List Form
     place = writer_place plain (write_of w)

@@ -8,6 +8,7 @@
 use Rattle.std.proofs.Common.{◌≡◌, ◌+◌, ◌*◌, ◌^◌, ◌≤◌, ◌<◌, ◌==◌, ◌&&◌, ℕ, zero, suc, ℤ, pos, negsuc, ◌+ℤ◌, ◌-ℤ◌}
 use Rattle.std.proofs.Common.{◌≤ℤ◌, ◌<ℤ◌, List, [], ◌∷◌, length, take, Bool, true, false, cond, refl, sym}
 use Rattle.std.proofs.Common.{ap, ◌∙◌, subst, arith, inl, inr, ◌⊎◌, lt-ltb}
+use Rattle.std.proofs.Math.Logic.{∥∥₁_elim}
 use Rattle.std.specs.Prelude.{Option, Some, None, slice_get, slice_index_or, nat_lt}
 use Rattle.std.specs.List.{list_all}
 use Rattle.std.specs.Option.{option_map, option_map_or}
@@ -38,7 +39,7 @@ use Rattle.lex_max.proofs.LeastForm.{choices_at, no_less_at, HasTerms}
 use Rattle.tree_graphs.proofs.FactSums.{fact_weaker}
 use Rattle.tree_graphs.proofs.EdgeRows.{node_few}
 use Rattle.tree_graphs.proofs.Differences.{by_trit, differences_are, how_many, is_trit, past_part, AreTrits}
-use Rattle.tree_graphs.proofs.ProblemBounds.{asked_fits, form_is, IsKnown, FormFits}
+use Rattle.tree_graphs.proofs.ProblemBounds.{form_is, writes_fit, IsKnown, FormFits}
 use Rattle.plain_data.proofs.Lists.{All-slice_get}
 use Rattle.tree_sums.specs.Closure.{AtMost, bound_sum}
 use Rattle.tree_sums.specs.Parts.{Part, the_constant, the_coefficient, part_of, row_part}
@@ -231,10 +232,13 @@ module _ (w : Writes) (edges : List Edge) (bounds : Bounds) (ready : AreReady w 
     to : edge.to ≡ v
     from : (edge.from ≡ depth) ⊎ (edge.from < v)
 
-  bounding : (v : ℕ) → v < depth → IsBounding v
-  bounding v inside =
-      let f : IsKnown w.vars (read_of w) (write_of w) w.level = asked_fits w ready.graph.asked in
-      let b = ready.graph.asked.problem.bounded v inside in
+  -- a domain row that bounds a loop
+  abbrev HasRow : ℕ → Type 0
+  HasRow v = (i : ℕ) × (row : Form) × (slice_get w.rows.now i ≡ Some row) × BoundsAbove v row
+
+  bounding : (v : ℕ) → v < depth → HasRow v → IsBounding v
+  bounding v inside b =
+      let f : IsKnown w.vars (read_of w) (write_of w) w.level = writes_fit w in
       let number : ℕ = b.0 in
       let row : Form = b.1 in
       let is : slice_get w.rows.now number ≡ Some row = b.2 in
@@ -273,24 +277,29 @@ module _ (w : Writes) (edges : List Edge) (bounds : Bounds) (ready : AreReady w 
         ];
       }
 
-  has_upper_below : (n v : ℕ) → v < n → v < depth → HasUpper v
-  has_upper_below zero v lt inside = absurd (omega arith)
-  has_upper_below (suc n) v lt inside =
-      let b : IsBounding v = bounding v inside in
+  has_upper_below : (n v : ℕ) → v < n → v < depth → (HasUpper v → ⊥) → ⊥
+  has_upper_below zero v lt inside none = omega arith
+  has_upper_below (suc n) v lt inside none =
+      ∥∥₁_elim (w.problem.bounded v inside) (λ (x y : ⊥). absurd x)
+      (λ row.
+      let b : IsBounding v = bounding v inside row in
       let to_inside : b.edge.to < depth = omega (arith, b.to, inside) in
       elim b.from [
         | inl first ↦
             (let own = some_from (value_at bounds b.edge.to b.edge.to) (pos 0) (closed.itself b.edge.to to_inside) in
-            upper_by v b.number b.edge b.is first to_inside own.0 (ap (value_at bounds b.edge.to) (sym b.to) ∙ own.1))
+            none
+            (upper_by v b.number b.edge b.is first to_inside own.0 (ap (value_at bounds b.edge.to) (sym b.to) ∙ own.1)))
         | inr below ↦
-            (let h : HasUpper b.edge.from =
-            has_upper_below n b.edge.from (omega (arith, below, lt)) (omega (arith, below, inside)) in
+            has_upper_below n b.edge.from (omega (arith, below, lt)) (omega (arith, below, inside))
+            (λ (h : HasUpper b.edge.from).
             let u : IsUpper b.edge.from h.number h.form = is_upper b.edge.from h.number h.form h.is in
             let z = beyond u.edge.to b.number b.edge u.value b.is (omega (arith, below, inside)) to_inside u.value_is in
-            upper_by v h.number u.edge u.is u.first u.inside z.0 (ap (value_at bounds u.edge.to) (sym b.to) ∙ z.1))
-      ]
+            none
+            (upper_by v h.number u.edge u.is u.first u.inside z.0 (ap (value_at bounds u.edge.to) (sym b.to) ∙ z.1)))
+      ])
 
-  pub has_upper : (v : ℕ) → v < depth → HasUpper v
+  -- it isn't so that a loop variable has no upper form
+  pub has_upper : (v : ℕ) → v < depth → (HasUpper v → ⊥) → ⊥
   has_upper v inside = has_upper_below (suc v) v (omega arith) inside
 
   -- The facts of the chosen place

@@ -57,7 +57,7 @@ zero_answer w context edges shown ts terms tree graph of h terms_is is tests =
           (subst (λ terms. AreRefuted (none_systems (read_of w) (write_of w) w.level c) (Sum terms ∷ []))
           (sym terms_is)
           (none_refuted w.vars (read_of w)
-          (write_of w) w.level c context.rows edges shown ts graph.asked.problem vars_is rows_is base graph.edges_are
+          (write_of w) w.level c context.rows edges shown ts w.problem vars_is rows_is base graph.edges_are
           (subst (λ v. IsContradiction v context.rows edges shown ts) same h))) sums);
       simple = simple_zero tests tree (proof ∷ []) is (All-cons IsLightSum proof [] (terms, refl, light) (All-nil _));
       greatest = λ x long meets.

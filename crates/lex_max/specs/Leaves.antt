@@ -6,7 +6,7 @@ use Rattle.int_polyhedra.specs.declared.system.Proof.TheVariants.{Sum}
 use Rattle.int_polyhedra.specs.declared.system.System.{System}
 use Rattle.int_polyhedra.specs.declared.system.Term.{Term}
 use Rattle.int_polyhedra.specs.Systems.{AreOver}
-use Rattle.tree_graphs.specs.Asked.{depth_of_write, read_of, write_of, IsAsked}
+use Rattle.tree_graphs.specs.Asked.{depth_of_write, read_of, write_of}
 use Rattle.tree_graphs.specs.Edges.{AreLevelRows}
 use Rattle.tree_graphs.specs.Facts.{form_parts, IsFact}
 use Rattle.tree_graphs.specs.Paths.{term_of, terms_from, IsPath}
@@ -37,7 +37,6 @@ pub record IsPlaceOf (w : Writes) (place : List Form) : Type 0 where
 -- what the proofs of a Writer leaf stand on; the rows of the context are numbered below `here`
 pub record IsLeafOf (w : Writes) (c : Context) (context : System) (place : List Form) (here : ℕ)
     : Type 0 where
-  pub asked : IsAsked w
   pub made : IsMadeFrom c context
   pub vars : c.vars ≡ w.vars
   pub few : length context.rows ≤ 4096

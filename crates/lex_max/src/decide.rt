@@ -3,20 +3,18 @@ ghost use Rattle.std.specs.Bool.{OnTrue};
 ghost use Rattle.std.specs.Option.{option_map};
 ghost use Rattle.int_polyhedra.specs.declared.system.System.{System as SystemOf};
 ghost use Rattle.int_polyhedra.specs.declared.system.Term.{Term as TermOf};
-ghost use Rattle.tree_graphs.specs.declared.closure.Bounds.{Bounds as BoundsOf};
 ghost use Rattle.tree_graphs.specs.declared.edges.Edge.{Edge as EdgeOf};
 ghost use Rattle.lex_max.specs.Answer.{IsAnswer, IsContextOf};
 ghost use Rattle.tree_graphs.specs.Cycles.{IsCycle};
-ghost use Rattle.tree_graphs.specs.Asked.{depth_of_write, IsAsked};
+ghost use Rattle.tree_graphs.specs.Asked.{depth_of_write};
 ghost use Rattle.affine_core.specs.declared.form.Form.{Form as FormOf};
 ghost use Rattle.int_polyhedra.specs.Steps.{negation_of};
 ghost use Rattle.lex_max.specs.ChoiceSteps.{with_cycles, AreSmallForms, IsChoiceStep, IsFollowed, IsSmallForm};
-ghost use Rattle.lex_max.specs.Choices.{chosen_place, choices_left, upper_of, uppers_from, uppers_of, with_terms, AllNone, AreCertsSoFar, AreChosen, AreReady, IsChoosing, IsNextChoice};
+ghost use Rattle.lex_max.specs.Choices.{chosen_place, choices_left, upper_of, uppers_from, uppers_of, with_terms, AllNone, AreCertsSoFar, AreChosen, IsChoosing, IsNextChoice};
 ghost use Rattle.tree_graphs.specs.Edges.{edge_parts, IsEdge};
 ghost use Rattle.lex_max.specs.EdgeStates.{IsEdgeState};
-ghost use Rattle.tree_graphs.specs.Facts.{form_parts, with_form, IsContext, IsFact};
+ghost use Rattle.tree_graphs.specs.Facts.{form_parts, with_form, IsFact};
 ghost use Rattle.tree_graphs.specs.Paths.{IsPath};
-ghost use Rattle.tree_graphs.specs.Rounds.{AreClosedOf, IsGraphOf};
 ghost use Rattle.tree_sums.specs.Parts.{weight, IsWithin, Part};
 
 use crate::leaf::writer_leaf;
@@ -27,8 +25,8 @@ use plain_data::Items;
 use source_tree::Tree;
 use std::alloc::{AllocError, Global};
 use tree_graphs::{
-    Bounds, Cycle, Edge, Graph, Writes, append, difference, form_beyond, joined, known, negative,
-    once, opposite, sum, test, with_row,
+    Context, Cycle, Edge, Graph, append, difference, form_beyond, joined, known, negative, once,
+    opposite, sum, test, with_row,
 };
 
 /// The least of the forms that bound a loop variable above: the number of the edge from 0 that its path begins with, the
@@ -58,59 +56,54 @@ pub enum EdgeState {
 }
 
 // The form of the path that begins with this edge from 0 and leads to a variable.
-fn upper_form(w: &Writes, bounds: &Bounds, edge: &Edge, variable: usize) -> Option<Form>
-    requires { (edges : List EdgeOf) × AreClosedOf w.now edges bounds.now
-        × IsEdge w.now.vars (depth_of_write w.now) edge.now }
-    ensures { result ≡ upper_of (depth_of_write w.now) bounds.now variable edge.now }
+fn upper_form(graph: &Graph, edge: &Edge, variable: usize) -> Option<Form>
+    requires { IsEdge graph.now.writes.vars (depth_of_write graph.now.writes) edge.now }
+    ensures { result
+        ≡ upper_of (depth_of_write graph.now.writes) graph.now.bounds.now variable edge.now }
 {
-    if edge.from != w.depth() {
+    if edge.from != graph.writes.depth() {
         return None;
     }
-    if edge.to >= w.depth() {
+    if edge.to >= graph.writes.depth() {
         return None;
     }
-    match bounds.at(edge.to, variable) {
+    match graph.bounds.at(edge.to, variable) {
         Some(bound) => Some(form_beyond(&edge.weight, bound)),
         None => None,
     }
 }
 
 // Per edge the form of its path to a variable, if it has one.
-fn upper_forms(
-    w: &Writes,
-    graph: &Graph,
-    variable: usize,
-) -> Result<Items<Option<Form>>, AllocError>
-    requires { AreReady w.now graph.now.edges.now graph.now.bounds.now }
+fn upper_forms(graph: &Graph, variable: usize) -> Result<Items<Option<Form>>, AllocError>
     ensures { IfOk result (λ forms. forms
-        ≡ uppers_of (depth_of_write w.now) graph.now.bounds.now graph.now.edges.now variable) }
+        ≡ uppers_of (depth_of_write graph.now.writes) graph.now.bounds.now graph.now.edges.now
+        variable) }
 {
     let edges = graph.edges;
-    let mut forms = Items::new(w.alloc);
+    let mut forms = Items::new(graph.writes.alloc);
     for edge in edges {
-        forms.push(upper_form(w, graph.bounds, edge, variable))?;
+        forms.push(upper_form(graph, edge, variable))?;
     }
     Ok(forms)
 }
 
 // Per loop variable the forms that bound it above.
-fn all_upper_forms(w: &Writes, graph: &Graph) -> Result<Items<Items<Option<Form>>>, AllocError>
-    requires { AreReady w.now graph.now.edges.now graph.now.bounds.now }
-    ensures { IfOk result (λ all. all ≡ uppers_from (depth_of_write w.now) graph.now.bounds.now
-        graph.now.edges.now 0 (depth_of_write w.now)) }
+fn all_upper_forms(graph: &Graph) -> Result<Items<Items<Option<Form>>>, AllocError>
+    ensures { IfOk result (λ all. all
+        ≡ uppers_from (depth_of_write graph.now.writes) graph.now.bounds.now graph.now.edges.now 0
+        (depth_of_write graph.now.writes)) }
 {
-    let mut all = Items::new(w.alloc);
-    for variable in 0..w.depth() {
-        all.push(upper_forms(w, graph, variable)?)?;
+    let mut all = Items::new(graph.writes.alloc);
+    for variable in 0..graph.writes.depth() {
+        all.push(upper_forms(graph, variable)?)?;
     }
     Ok(all)
 }
 
 // Whether the context tells that a form is no greater than another, from which it differs. Nothing is promised of a yes.
-fn is_no_greater(context: &System, form: &Form, other: &Form) -> Result<bool, AllocError>
-    requires context { IsContext context.now }
-    requires form { IsSmallForm context.now.vars form.now }
-    requires other { IsSmallForm context.now.vars other.now }
+fn is_no_greater(context: &Context, form: &Form, other: &Form) -> Result<bool, AllocError>
+    requires form { IsSmallForm context.now.system.now.vars form.now }
+    requires other { IsSmallForm context.now.system.now.vars other.now }
 {
     if form.constant == other.constant && form.coefs == other.coefs {
         return Ok(false);
@@ -123,12 +116,11 @@ fn is_no_greater(context: &System, form: &Form, other: &Form) -> Result<bool, Al
 // the others is known to be less, so that the choice begins with it. Rows of the order before the read come last, so it is a
 // reader's variable where it can be.
 fn least_form(
-    context: &System,
+    context: &Context,
     forms: &[Option<Form>],
     number: usize,
 ) -> Result<Option<(usize, Form)>, AllocError>
-    requires context { IsContext context.now }
-    requires forms { AreSmallForms context.now.vars forms.now }
+    requires forms { AreSmallForms context.now.system.now.vars forms.now }
     requires few { number + length forms.now < 2 ^ 32 }
     ensures { IfOk result (λ found. MatchOption found (AllNone forms.now) (λ least. (k : ℕ)
         × (least.0 ≡ number + k) × (slice_get forms.now k ≡ Some (Some least.1)))) }
@@ -150,9 +142,8 @@ fn least_form(
 }
 
 // The first choice for a variable that these forms bound: it has no terms yet.
-fn start(w: &Writes, context: &System, forms: &[Option<Form>]) -> Result<Choice, AllocError>
-    requires context { IsContext context.now }
-    requires forms { AreSmallForms context.now.vars forms.now }
+fn start(alloc: Global, context: &Context, forms: &[Option<Form>]) -> Result<Choice, AllocError>
+    requires forms { AreSmallForms context.now.system.now.vars forms.now }
     requires few { length forms.now ≤ 56 }
     requires some { AllNone forms.now → ⊥ }
     ensures edge { IfOk result
@@ -163,7 +154,7 @@ fn start(w: &Writes, context: &System, forms: &[Option<Form>]) -> Result<Choice,
         Some((edge, form)) => Ok(Choice {
             edge,
             form,
-            less: Items::new(w.alloc),
+            less: Items::new(alloc),
         }),
         None => unreachable!(),
     }
@@ -283,18 +274,17 @@ fn switched(
 // The choice among one form more, which is no less or no greater than the chosen one by so much, where the context tells it.
 fn next_choice(
     alloc: Global,
-    context: &System,
+    context: &Context,
     choice: &Choice,
     form: &Form,
     above: &Form,
 ) -> Result<Option<Choice>, AllocError>
-    requires context { IsContext context.now }
-    requires over { length above.now.coefs ≡ context.now.vars }
+    requires over { length above.now.coefs ≡ context.now.system.now.vars }
     requires small { IsWithin (2 ^ 60) above.now }
     requires parts { (part : Part) → form_parts above.now part
         ≡ form_parts form.now part -ℤ form_parts choice.now.form part }
     ensures { IfOk result (λ next. IfSome next
-        (IsNextChoice context.now context.now (Some form.now) choice.now)) }
+        (IsNextChoice context.now.system.now context.now.system.now (Some form.now) choice.now)) }
 {
     let found = known(context, above)?;
     if let Some(terms) = found {
@@ -312,40 +302,38 @@ fn next_choice(
 // The choice where the row behind the context says that the form is no less than the chosen one by so much.
 fn same_choice(
     alloc: Global,
-    context: &System,
+    context: &Context,
     choice: &Choice,
     form: &Form,
     above: &Form,
 ) -> Result<Choice, AllocError>
-    requires few { length context.now.rows < 2 ^ 32 }
-    requires parts { (part : Part) → form_parts above.now part
+    requires { (part : Part) → form_parts above.now part
         ≡ form_parts form.now part -ℤ form_parts choice.now.form part }
     ensures { IfOk result (λ next. (least : SystemOf)
-        → least ≡ record context.now { rows = context.now.rows ++ above.now ∷ [] }
-        → IsNextChoice context.now least (Some form.now) choice.now next) }
+        → least ≡ with_form context.now.system.now above.now
+        → IsNextChoice context.now.system.now least (Some form.now) choice.now next) }
 {
-    let own = once(alloc, context.rows.len() as u32)?;
+    let own = once(alloc, context.system.rows.len() as u32)?;
     kept(alloc, choice, Some(own))
 }
 
 // The choice where the row behind the context says that the form is less than the chosen one.
 fn other_choice(
     alloc: Global,
-    context: &System,
+    context: &Context,
     choice: &Choice,
     form: &Form,
     above: &Form,
 ) -> Result<Choice, AllocError>
-    requires few { length context.now.rows < 2 ^ 32 }
     requires small { IsWithin (2 ^ 60) above.now }
     requires parts { (part : Part) → form_parts above.now part
         ≡ form_parts form.now part -ℤ form_parts choice.now.form part }
     ensures { IfOk result (λ next. (below : SystemOf) (row : FormOf)
         → negation_of above.now ≡ Some row
-        → below ≡ record context.now { rows = context.now.rows ++ row ∷ [] }
-        → IsNextChoice context.now below (Some form.now) choice.now next) }
+        → below ≡ with_form context.now.system.now row
+        → IsNextChoice context.now.system.now below (Some form.now) choice.now next) }
 {
-    let own = once(alloc, context.rows.len() as u32)?;
+    let own = once(alloc, context.system.rows.len() as u32)?;
     switched(alloc, choice, own.as_slice(), form)
 }
 
@@ -366,14 +354,13 @@ fn with_choice(
 // What follows a choice, with one form more.
 fn choice_step(
     alloc: Global,
-    context: &System,
+    context: &Context,
     form: &Option<Form>,
     choice: &Choice,
 ) -> Result<ChoiceStep, AllocError>
-    requires context { IsContext context.now }
-    requires chosen { IsSmallForm context.now.vars choice.now.form }
-    requires form { IfSome form.now (IsSmallForm context.now.vars) }
-    ensures { IfOk result (IsChoiceStep context.now form.now choice.now) }
+    requires chosen { IsSmallForm context.now.system.now.vars choice.now.form }
+    requires form { IfSome form.now (IsSmallForm context.now.system.now.vars) }
+    ensures { IfOk result (IsChoiceStep context.now.system.now form.now choice.now) }
 {
     let Some(form) = form else {
         let next = kept(alloc, choice, None)?;
@@ -392,7 +379,6 @@ fn choice_step(
 /// What is chosen so far: for each of the first variables the least form.
 #[cycle(choose)]
 fn choose(
-    w: &Writes,
     graph: &Graph,
     context: &System,
     forms: &[Option<Form>],
@@ -400,17 +386,19 @@ fn choose(
     choice: &Choice,
     choices: &[Choice],
 ) -> Result<Tree, AllocError>
-    requires ready { AreReady w.now graph.now.edges.now graph.now.bounds.now }
-    requires context { IsContextOf w.now (choices_left forms.now more.now) context.now }
-    requires choosing { IsChoosing (depth_of_write w.now) graph.now.bounds.now graph.now.edges.now
+    requires context { IsContextOf graph.now.writes (choices_left forms.now more.now) context.now }
+    requires choosing { IsChoosing
+        (depth_of_write graph.now.writes) graph.now.bounds.now graph.now.edges.now
         context.now forms.now more.now choice.now choices.now }
-    ensures { IfOk result (IsAnswer w.now context.now (choices_left forms.now more.now)) }
+    ensures { IfOk result (IsAnswer graph.now.writes context.now
+        (choices_left forms.now more.now)) }
 {
     let Some((form, forms)) = forms.split_first() else {
-        return choose_next(w, graph, context, more, choice, choices);
+        return choose_next(graph, context, more, choice, choices);
     };
-    let step = choice_step(w.alloc, context, form, choice)?;
-    let tree = follow(w, graph, context, forms, more, &step, choices);
+    let here = Context { system: context };
+    let step = choice_step(graph.writes.alloc, &here, form, choice)?;
+    let tree = follow(graph, context, forms, more, &step, choices);
     drop(step);
     tree
 }
@@ -418,33 +406,32 @@ fn choose(
 // All forms of a variable were looked at: goes on with the next variable.
 #[cycle(choose)]
 fn choose_next(
-    w: &Writes,
     graph: &Graph,
     context: &System,
     more: &[Items<Option<Form>>],
     choice: &Choice,
     choices: &[Choice],
 ) -> Result<Tree, AllocError>
-    requires ready { AreReady w.now graph.now.edges.now graph.now.bounds.now }
-    requires context { IsContextOf w.now (choices_left [] more.now) context.now }
-    requires choosing { IsChoosing (depth_of_write w.now) graph.now.bounds.now graph.now.edges.now
+    requires context { IsContextOf graph.now.writes (choices_left [] more.now) context.now }
+    requires choosing { IsChoosing
+        (depth_of_write graph.now.writes) graph.now.bounds.now graph.now.edges.now
         context.now [] more.now choice.now choices.now }
-    ensures { IfOk result (IsAnswer w.now context.now (choices_left [] more.now)) }
+    ensures { IfOk result (IsAnswer graph.now.writes context.now (choices_left [] more.now)) }
 {
-    let all = with_choice(w.alloc, choices, choice)?;
+    let all = with_choice(graph.writes.alloc, choices, choice)?;
     let chosen = all.as_slice();
     let Some((next, more)) = more.split_first() else {
-        return confirm_all(w, graph, context, chosen);
+        return confirm_all(graph, context, chosen);
     };
     let next = next.as_slice();
-    let first = start(w, context, next)?;
-    choose(w, graph, context, next, more, &first, chosen)
+    let here = Context { system: context };
+    let first = start(graph.writes.alloc, &here, next)?;
+    choose(graph, context, next, more, &first, chosen)
 }
 
 // Goes on with what follows a choice.
 #[cycle(choose)]
 fn follow(
-    w: &Writes,
     graph: &Graph,
     context: &System,
     forms: &[Option<Form>],
@@ -452,20 +439,22 @@ fn follow(
     step: &ChoiceStep,
     choices: &[Choice],
 ) -> Result<Tree, AllocError>
-    requires ready { AreReady w.now graph.now.edges.now graph.now.bounds.now }
-    requires context { IsContextOf w.now (choices_left forms.now more.now + 1) context.now }
-    requires step { IsFollowed (depth_of_write w.now) graph.now.bounds.now graph.now.edges.now
+    requires context { IsContextOf graph.now.writes
+        (choices_left forms.now more.now + 1) context.now }
+    requires step { IsFollowed
+        (depth_of_write graph.now.writes) graph.now.bounds.now graph.now.edges.now
         context.now forms.now more.now step.now choices.now }
-    ensures { IfOk result (IsAnswer w.now context.now (choices_left forms.now more.now + 1)) }
+    ensures { IfOk result (IsAnswer graph.now.writes context.now
+        (choices_left forms.now more.now + 1)) }
 {
     match step {
-        ChoiceStep::Known(next) => choose(w, graph, context, forms, more, next, choices),
+        ChoiceStep::Known(next) => choose(graph, context, forms, more, next, choices),
         ChoiceStep::Either(above, same, other) => {
             let row = opposite(above);
-            let no = choose_with(w, graph, context, row, forms, more, other, choices)?;
+            let no = choose_with(graph, context, row, forms, more, other, choices)?;
             let row = above.copy();
-            match choose_with(w, graph, context, row, forms, more, same, choices) {
-                Ok(yes) => test(w.alloc, above.copy(), yes, no),
+            match choose_with(graph, context, row, forms, more, same, choices) {
+                Ok(yes) => test(graph.writes.alloc, above.copy(), yes, no),
                 Err(error) => {
                     drop(no);
                     Err(error)
@@ -478,7 +467,6 @@ fn follow(
 // Goes on in the context with this row behind.
 #[cycle(choose)]
 fn choose_with(
-    w: &Writes,
     graph: &Graph,
     context: &System,
     row: Form,
@@ -487,16 +475,16 @@ fn choose_with(
     choice: &Choice,
     choices: &[Choice],
 ) -> Result<Tree, AllocError>
-    requires ready { AreReady w.now graph.now.edges.now graph.now.bounds.now }
-    requires context { IsContextOf w.now (choices_left forms.now more.now)
+    requires context { IsContextOf graph.now.writes (choices_left forms.now more.now)
         (with_form context.now row) }
-    requires choosing { IsChoosing (depth_of_write w.now) graph.now.bounds.now graph.now.edges.now
+    requires choosing { IsChoosing
+        (depth_of_write graph.now.writes) graph.now.bounds.now graph.now.edges.now
         (with_form context.now row) forms.now more.now choice.now choices.now }
     ensures { IfOk result
-        (IsAnswer w.now (with_form context.now row) (choices_left forms.now more.now)) }
+        (IsAnswer graph.now.writes (with_form context.now row) (choices_left forms.now more.now)) }
 {
     let longer = with_row(context, row)?;
-    choose(w, graph, &longer, forms, more, choice, choices)
+    choose(graph, &longer, forms, more, choice, choices)
 }
 
 // The terms of the form of this number, which is there.
@@ -512,25 +500,25 @@ fn terms_at(alloc: Global, choice: &Choice, number: usize) -> Result<Items<Term>
 
 // The terms that show an edge to a variable at the chosen point: those of the form that its path to the variable has.
 fn upper_terms(
-    w: &Writes,
+    graph: &Graph,
     edge: &Edge,
     number: usize,
     choices: &[Choice],
 ) -> Result<Items<Term>, AllocError>
-    requires { (edges : List EdgeOf) × (bounds : BoundsOf) × (context : SystemOf)
-        × AreReady w.now edges bounds × AreChosen w.now edges bounds context choices.now
-        × (slice_get edges number ≡ Some edge.now) × (edge.now.to < depth_of_write w.now) }
-    ensures { IfOk result (λ terms. (edges : List EdgeOf) (bounds : BoundsOf) (context : SystemOf)
-        → AreReady w.now edges bounds → AreChosen w.now edges bounds context choices.now
-        → slice_get edges number ≡ Some edge.now → edge.now.to < depth_of_write w.now
+    requires chosen { (context : SystemOf) × AreChosen graph.now.writes graph.now.edges.now
+        graph.now.bounds.now context choices.now }
+    requires edge { slice_get graph.now.edges.now number ≡ Some edge.now }
+    requires to { edge.now.to < depth_of_write graph.now.writes }
+    ensures { IfOk result (λ terms. (context : SystemOf)
+        → AreChosen graph.now.writes graph.now.edges.now graph.now.bounds.now context choices.now
         → IsFact context (2 ^ 23) (edge_parts (chosen_place choices.now) edge.now) terms) }
 {
     let last = &choices[edge.to];
-    if edge.from == w.depth() {
-        return terms_at(w.alloc, last, number);
+    if edge.from == graph.writes.depth() {
+        return terms_at(graph.writes.alloc, last, number);
     }
     let first = &choices[edge.from];
-    terms_at(w.alloc, last, first.edge)
+    terms_at(graph.writes.alloc, last, first.edge)
 }
 
 // The variable that the edge of this number leads to.
@@ -545,22 +533,17 @@ fn end_of(edges: &[Edge], number: usize) -> usize
 }
 
 /// The rows of the path to the form that is chosen for a variable. They show that it is no less than the variable.
-pub fn path_to(
-    w: &Writes,
-    graph: &Graph,
-    choice: &Choice,
-    variable: usize,
-) -> Result<Items<Term>, AllocError>
-    requires ready { AreReady w.now graph.now.edges.now graph.now.bounds.now }
-    requires chosen { slice_get
-        (uppers_of (depth_of_write w.now) graph.now.bounds.now graph.now.edges.now variable)
+pub fn path_to(graph: &Graph, choice: &Choice, variable: usize) -> Result<Items<Term>, AllocError>
+    requires { slice_get
+        (uppers_of (depth_of_write graph.now.writes) graph.now.bounds.now graph.now.edges.now
+        variable)
         choice.now.edge ≡ Some (Some choice.now.form) }
     ensures path { IfOk result (λ terms. IsPath graph.now.edges.now terms
-        (form_parts choice.now.form) (depth_of_write w.now) variable) }
+        (form_parts choice.now.form) (depth_of_write graph.now.writes) variable) }
     ensures light { IfOk result (λ terms. weight terms ≤ 65) }
 {
     let to = end_of(graph.edges, choice.edge);
-    let mut terms = once(w.alloc, choice.edge as u32)?;
+    let mut terms = once(graph.writes.alloc, choice.edge as u32)?;
     match graph.bounds.at(to, variable) {
         Some(bound) => {
             append(&mut terms, bound.terms.as_slice())?;
@@ -573,28 +556,26 @@ pub fn path_to(
 // The cycle that an edge to 0 makes with the path to what is chosen for its variable: its form is the edge's value at the
 // chosen point.
 fn cycle_back(
-    w: &Writes,
     graph: &Graph,
     edge: &Edge,
     number: usize,
     choices: &[Choice],
 ) -> Result<Cycle, AllocError>
-    requires ready { AreReady w.now graph.now.edges.now graph.now.bounds.now }
     requires chosen { (context : SystemOf)
-        × AreChosen w.now graph.now.edges.now graph.now.bounds.now context choices.now }
+        × AreChosen graph.now.writes graph.now.edges.now graph.now.bounds.now context choices.now }
     requires edge { slice_get graph.now.edges.now number ≡ Some edge.now }
-    requires back { edge.now.to ≡ depth_of_write w.now }
-    ensures cycle { IfOk result (IsCycle w.now.vars graph.now.edges.now) }
+    requires back { edge.now.to ≡ depth_of_write graph.now.writes }
+    ensures cycle { IfOk result (IsCycle graph.now.writes.vars graph.now.edges.now) }
     ensures form { IfOk result (λ cycle. (part : Part)
         → form_parts cycle.form part ≡ edge_parts (chosen_place choices.now) edge.now part) }
 {
-    if edge.from == w.depth() {
-        let terms = once(w.alloc, number as u32)?;
+    if edge.from == graph.writes.depth() {
+        let terms = once(graph.writes.alloc, number as u32)?;
         let form = edge.weight.copy();
         return Ok(Cycle { form, terms });
     }
     let choice = &choices[edge.from];
-    let mut rows = path_to(w, graph, choice, edge.from)?;
+    let mut rows = path_to(graph, choice, edge.from)?;
     rows.push(Term {
         row: number as u32,
         times: 1,
@@ -607,18 +588,21 @@ fn cycle_back(
 }
 
 // What the context tells of a cycle, if it shows or refutes it.
-fn cycle_state(w: &Writes, context: &System, cycle: &Cycle) -> Result<Option<EdgeState>, AllocError>
-    requires context { IsContextOf w.now 0 context.now }
-    requires cycle { (edges : List EdgeOf) × IsGraphOf w.now edges
-        × IsCycle w.now.vars edges cycle.now }
-    ensures { IfOk result (λ told. IfSome told (λ state. (edges : List EdgeOf)
-        (place : List FormOf) (edge : EdgeOf)
+fn cycle_state(
+    graph: &Graph,
+    context: &System,
+    cycle: &Cycle,
+) -> Result<Option<EdgeState>, AllocError>
+    requires context { IsContextOf graph.now.writes 0 context.now }
+    requires cycle { IsCycle graph.now.writes.vars graph.now.edges.now cycle.now }
+    ensures { IfOk result (λ told. IfSome told (λ state. (place : List FormOf) (edge : EdgeOf)
         → ((part : Part) → form_parts cycle.now.form part ≡ edge_parts place edge part)
-        → IsEdgeState w.now edges context.now place edge state)) }
+        → IsEdgeState graph.now.writes graph.now.edges.now context.now place edge state)) }
 {
-    match known(context, &cycle.form)? {
+    let here = Context { system: context };
+    match known(&here, &cycle.form)? {
         Some(terms) => Ok(Some(EdgeState::Shown(terms))),
-        None => match refuted_by(w, context, cycle)? {
+        None => match refuted_by(graph, context, cycle)? {
             Some(leaf) => Ok(Some(EdgeState::Refuted(leaf))),
             None => Ok(None),
         },
@@ -627,27 +611,25 @@ fn cycle_state(w: &Writes, context: &System, cycle: &Cycle) -> Result<Option<Edg
 
 // Finds what the context tells of an edge at the chosen point.
 fn edge_state(
-    w: &Writes,
     graph: &Graph,
     context: &System,
     edge: &Edge,
     number: usize,
     choices: &[Choice],
 ) -> Result<EdgeState, AllocError>
-    requires ready { AreReady w.now graph.now.edges.now graph.now.bounds.now }
-    requires context { IsContextOf w.now 0 context.now }
-    requires chosen { AreChosen w.now graph.now.edges.now graph.now.bounds.now context.now
-        choices.now }
+    requires context { IsContextOf graph.now.writes 0 context.now }
+    requires chosen { AreChosen graph.now.writes graph.now.edges.now graph.now.bounds.now
+        context.now choices.now }
     requires edge { slice_get graph.now.edges.now number ≡ Some edge.now }
-    ensures { IfOk result (IsEdgeState w.now graph.now.edges.now context.now
+    ensures { IfOk result (IsEdgeState graph.now.writes graph.now.edges.now context.now
         (chosen_place choices.now) edge.now) }
 {
-    if edge.to < w.depth() {
-        let shown = upper_terms(w, edge, number, choices)?;
+    if edge.to < graph.writes.depth() {
+        let shown = upper_terms(graph, edge, number, choices)?;
         return Ok(EdgeState::Shown(shown));
     }
-    let cycle = cycle_back(w, graph, edge, number, choices)?;
-    match cycle_state(w, context, &cycle) {
+    let cycle = cycle_back(graph, edge, number, choices)?;
+    match cycle_state(graph, context, &cycle) {
         Ok(Some(state)) => {
             drop(cycle);
             Ok(state)
@@ -661,16 +643,16 @@ fn edge_state(
 }
 
 // The Test of a cycle's form, where this is the tree of the context in which it is at least 0.
-fn cycle_test(w: &Writes, context: &System, cycle: &Cycle, yes: Tree) -> Result<Tree, AllocError>
-    requires context { IsContextOf w.now 1 context.now }
-    requires cycle { (edges : List EdgeOf) × IsGraphOf w.now edges
-        × IsCycle w.now.vars edges cycle.now }
+fn cycle_test(graph: &Graph, context: &System, cycle: &Cycle, yes: Tree) -> Result<Tree, AllocError>
+    requires context { IsContextOf graph.now.writes 1 context.now }
+    requires cycle { IsCycle graph.now.writes.vars graph.now.edges.now cycle.now }
     ensures { IfOk result (λ tree. (above : SystemOf) (tests : ℕ)
         → above ≡ record context.now { rows = context.now.rows ++ cycle.now.form ∷ [] }
-        → IsAnswer w.now above tests yes → IsAnswer w.now context.now (tests + 1) tree) }
+        → IsAnswer graph.now.writes above tests yes → IsAnswer graph.now.writes context.now
+        (tests + 1) tree) }
 {
-    match zero_below(w, context, cycle) {
-        Ok(no) => test(w.alloc, cycle.form.copy(), yes, no),
+    match zero_below(graph, context, cycle) {
+        Ok(no) => test(graph.writes.alloc, cycle.form.copy(), yes, no),
         Err(error) => {
             drop(yes);
             Err(error)
@@ -681,33 +663,31 @@ fn cycle_test(w: &Writes, context: &System, cycle: &Cycle, yes: Tree) -> Result<
 // Finds for each of the edges that are left the terms that show it at the chosen point.
 #[cycle(confirm)]
 fn confirm(
-    w: &Writes,
     graph: &Graph,
     context: &System,
     edges: &[Edge],
     choices: &[Choice],
     certs: &mut Items<Items<Term>>,
 ) -> Result<Tree, AllocError>
-    requires ready { AreReady w.now graph.now.edges.now graph.now.bounds.now }
-    requires context { IsContextOf w.now (length edges.now) context.now }
-    requires chosen { AreChosen w.now graph.now.edges.now graph.now.bounds.now context.now
-        choices.now }
+    requires context { IsContextOf graph.now.writes (length edges.now) context.now }
+    requires chosen { AreChosen graph.now.writes graph.now.edges.now graph.now.bounds.now
+        context.now choices.now }
     requires certs { AreCertsSoFar context.now (chosen_place choices.now) graph.now.edges.now
         edges.now certs.old }
-    ensures { IfOk result (IsAnswer w.now context.now (length edges.now)) }
+    ensures { IfOk result (IsAnswer graph.now.writes context.now (length edges.now)) }
 {
     let Some((edge, edges)) = edges.split_first() else {
-        return writer_leaf(w, graph, context, choices, certs.as_slice());
+        return writer_leaf(graph, context, choices, certs.as_slice());
     };
-    let state = edge_state(w, graph, context, edge, certs.len(), choices)?;
+    let state = edge_state(graph, context, edge, certs.len(), choices)?;
     match state {
         EdgeState::Shown(terms) => {
             certs.push(terms)?;
-            confirm(w, graph, context, edges, choices, certs)
+            confirm(graph, context, edges, choices, certs)
         }
         EdgeState::Refuted(leaf) => Ok(leaf),
         EdgeState::Open(cycle) => {
-            let tree = confirm_above(w, graph, context, edges, choices, certs, &cycle);
+            let tree = confirm_above(graph, context, edges, choices, certs, &cycle);
             drop(cycle);
             tree
         }
@@ -717,7 +697,6 @@ fn confirm(
 // Tests the form of a cycle, which shows an edge where it is at least 0.
 #[cycle(confirm)]
 fn confirm_above(
-    w: &Writes,
     graph: &Graph,
     context: &System,
     edges: &[Edge],
@@ -725,128 +704,118 @@ fn confirm_above(
     certs: &mut Items<Items<Term>>,
     cycle: &Cycle,
 ) -> Result<Tree, AllocError>
-    requires ready { AreReady w.now graph.now.edges.now graph.now.bounds.now }
-    requires context { IsContextOf w.now (length edges.now + 1) context.now }
-    requires chosen { AreChosen w.now graph.now.edges.now graph.now.bounds.now context.now
-        choices.now }
-    requires cycle { IsCycle w.now.vars graph.now.edges.now cycle.now }
+    requires context { IsContextOf graph.now.writes (length edges.now + 1) context.now }
+    requires chosen { AreChosen graph.now.writes graph.now.edges.now graph.now.bounds.now
+        context.now choices.now }
+    requires cycle { IsCycle graph.now.writes.vars graph.now.edges.now cycle.now }
     requires certs { (edge : EdgeOf) × AreCertsSoFar context.now (chosen_place choices.now)
         graph.now.edges.now (edge ∷ edges.now) certs.old
         × ((part : Part) → form_parts cycle.now.form part
         ≡ edge_parts (chosen_place choices.now) edge part) }
-    ensures { IfOk result (IsAnswer w.now context.now (length edges.now + 1)) }
+    ensures { IfOk result (IsAnswer graph.now.writes context.now (length edges.now + 1)) }
 {
-    let own = once(w.alloc, context.rows.len() as u32)?;
+    let own = once(graph.writes.alloc, context.rows.len() as u32)?;
     certs.push(own)?;
     let above = with_row(context, cycle.form.copy())?;
-    let yes = confirm(w, graph, &above, edges, choices, certs)?;
-    cycle_test(w, context, cycle, yes)
+    let yes = confirm(graph, &above, edges, choices, certs)?;
+    cycle_test(graph, context, cycle, yes)
 }
 
 // Finds for each edge the terms that show it at the chosen point.
-fn confirm_all(
-    w: &Writes,
-    graph: &Graph,
-    context: &System,
-    choices: &[Choice],
-) -> Result<Tree, AllocError>
-    requires ready { AreReady w.now graph.now.edges.now graph.now.bounds.now }
-    requires context { IsContextOf w.now (length graph.now.edges.now) context.now }
-    requires chosen { AreChosen w.now graph.now.edges.now graph.now.bounds.now context.now
-        choices.now }
-    ensures { IfOk result (IsAnswer w.now context.now (length graph.now.edges.now)) }
+fn confirm_all(graph: &Graph, context: &System, choices: &[Choice]) -> Result<Tree, AllocError>
+    requires context { IsContextOf graph.now.writes (length graph.now.edges.now) context.now }
+    requires chosen { AreChosen graph.now.writes graph.now.edges.now graph.now.bounds.now
+        context.now choices.now }
+    ensures { IfOk result (IsAnswer graph.now.writes context.now (length graph.now.edges.now)) }
 {
-    let mut certs = Items::new(w.alloc);
-    confirm(w, graph, context, graph.edges, choices, &mut certs)
+    let mut certs = Items::new(graph.writes.alloc);
+    confirm(graph, context, graph.edges, choices, &mut certs)
 }
 
 // Chooses a form for each variable, from the outermost loop on.
-fn choose_all(w: &Writes, graph: &Graph, context: &System) -> Result<Tree, AllocError>
-    requires ready { AreReady w.now graph.now.edges.now graph.now.bounds.now }
-    requires context { IsContextOf w.now 392 context.now }
-    ensures { IfOk result (IsAnswer w.now context.now 392) }
+fn choose_all(graph: &Graph, context: &System) -> Result<Tree, AllocError>
+    requires { IsContextOf graph.now.writes 392 context.now }
+    ensures { IfOk result (IsAnswer graph.now.writes context.now 392) }
 {
-    let all = all_upper_forms(w, graph)?;
+    let all = all_upper_forms(graph)?;
     let Some((forms, more)) = all.as_slice().split_first() else {
-        return confirm_all(w, graph, context, &[]);
+        return confirm_all(graph, context, &[]);
     };
     let forms = forms.as_slice();
-    let first = start(w, context, forms)?;
-    choose(w, graph, context, forms, more, &first, &[])
+    let here = Context { system: context };
+    let first = start(graph.writes.alloc, &here, forms)?;
+    choose(graph, context, forms, more, &first, &[])
 }
 
 // Whether the context tells that a form is at least 0.
-fn is_known(context: &System, form: &Form) -> Result<bool, AllocError>
-    requires context { IsContext context.now }
-    requires over { length form.now.coefs ≡ context.now.vars }
+fn is_known(context: &Context, form: &Form) -> Result<bool, AllocError>
+    requires { length form.now.coefs ≡ context.now.system.now.vars }
     ensures { IfOk result (λ told. OnTrue told
-        ((terms : List TermOf) × IsFact context.now 65536 (form_parts form.now) terms)) }
+        ((terms : List TermOf) × IsFact context.now.system.now 65536 (form_parts form.now) terms)) }
 {
     let found = known(context, form)?;
     Ok(found.is_some())
 }
 
 // Whether a form is known to be at least 0 where the context's rows and the forms of these cycles are.
-fn is_told(w: &Writes, context: &System, cycles: &[Cycle], form: &Form) -> Result<bool, AllocError>
-    requires asked { IsAsked w.now }
-    requires context { IsContextOf w.now (length cycles.now) context.now }
-    requires cycles { (edges : List EdgeOf) × All (IsCycle w.now.vars edges) cycles.now }
-    requires over { length form.now.coefs ≡ w.now.vars }
+fn is_told(
+    graph: &Graph,
+    context: &System,
+    cycles: &[Cycle],
+    form: &Form,
+) -> Result<bool, AllocError>
+    requires context { IsContextOf graph.now.writes (length cycles.now) context.now }
+    requires cycles { All (IsCycle graph.now.writes.vars graph.now.edges.now) cycles.now }
+    requires over { length form.now.coefs ≡ graph.now.writes.vars }
     ensures { IfOk result (λ told. OnTrue told ((terms : List TermOf)
         × IsFact (with_cycles context.now cycles.now) 65536 (form_parts form.now) terms)) }
 {
     let Some((cycle, cycles)) = cycles.split_first() else {
-        return is_known(context, form);
+        let here = Context { system: context };
+        return is_known(&here, form);
     };
     let more = with_row(context, cycle.form.copy())?;
-    is_told(w, &more, cycles, form)
+    is_told(graph, &more, cycles, form)
 }
 
 /// The tree of a context, where these cycles through 0 are yet to be tested: first it is tested that each is at least 0, and
 /// then the least form is chosen for each variable.
 #[cycle(conditions)]
-pub fn conditions(
-    w: &Writes,
-    graph: &Graph,
-    context: &System,
-    cycles: &[Cycle],
-) -> Result<Tree, AllocError>
-    requires ready { AreReady w.now graph.now.edges.now graph.now.bounds.now }
-    requires context { IsContextOf w.now (length cycles.now + 392) context.now }
-    requires cycles { All (IsCycle w.now.vars graph.now.edges.now) cycles.now }
-    ensures { IfOk result (IsAnswer w.now context.now (length cycles.now + 392)) }
+pub fn conditions(graph: &Graph, context: &System, cycles: &[Cycle]) -> Result<Tree, AllocError>
+    requires context { IsContextOf graph.now.writes (length cycles.now + 392) context.now }
+    requires cycles { All (IsCycle graph.now.writes.vars graph.now.edges.now) cycles.now }
+    ensures { IfOk result (IsAnswer graph.now.writes context.now (length cycles.now + 392)) }
 {
     let Some((cycle, rest)) = cycles.split_first() else {
-        return choose_all(w, graph, context);
+        return choose_all(graph, context);
     };
-    if is_known(context, &cycle.form)? {
-        return conditions(w, graph, context, rest);
+    let here = Context { system: context };
+    if is_known(&here, &cycle.form)? {
+        return conditions(graph, context, rest);
     }
-    match refuted_leaf(w, context, cycles)? {
+    match refuted_leaf(graph, context, cycles)? {
         Some(leaf) => Ok(leaf),
-        None => condition(w, graph, context, cycle, rest),
+        None => condition(graph, context, cycle, rest),
     }
 }
 
 // Tests the form of a cycle, unless those of the others tell it.
 #[cycle(conditions)]
 fn condition(
-    w: &Writes,
     graph: &Graph,
     context: &System,
     cycle: &Cycle,
     rest: &[Cycle],
 ) -> Result<Tree, AllocError>
-    requires ready { AreReady w.now graph.now.edges.now graph.now.bounds.now }
-    requires context { IsContextOf w.now (length rest.now + 393) context.now }
-    requires cycle { IsCycle w.now.vars graph.now.edges.now cycle.now }
-    requires rest { All (IsCycle w.now.vars graph.now.edges.now) rest.now }
-    ensures { IfOk result (IsAnswer w.now context.now (length rest.now + 393)) }
+    requires context { IsContextOf graph.now.writes (length rest.now + 393) context.now }
+    requires cycle { IsCycle graph.now.writes.vars graph.now.edges.now cycle.now }
+    requires rest { All (IsCycle graph.now.writes.vars graph.now.edges.now) rest.now }
+    ensures { IfOk result (IsAnswer graph.now.writes context.now (length rest.now + 393)) }
 {
-    if is_told(w, context, rest, &cycle.form)? {
-        return conditions(w, graph, context, rest);
+    if is_told(graph, context, rest, &cycle.form)? {
+        return conditions(graph, context, rest);
     }
     let above = with_row(context, cycle.form.copy())?;
-    let yes = conditions(w, graph, &above, rest)?;
-    cycle_test(w, context, cycle, yes)
+    let yes = conditions(graph, &above, rest)?;
+    cycle_test(graph, context, cycle, yes)
 }

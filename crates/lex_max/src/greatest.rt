@@ -1,9 +1,9 @@
-ghost use Rattle.std.specs.Prelude.{◌≡◌, Some, IfOk};
+ghost use Rattle.std.specs.Prelude.{◌≡◌, length, Some, IfOk};
 ghost use Rattle.lex_max.specs.Answer.{root_of, IsAnswer, IsContextOf};
-ghost use Rattle.tree_graphs.specs.Asked.{depth_of_read, read_of, write_of, AreAsked, HasLevelOf, IsAsked, WritesArrayOf};
-ghost use Rattle.lex_max.specs.Choices.{AreReady};
+ghost use Rattle.tree_graphs.specs.Asked.{depth_of_read, read_of, write_of, AreAsked, HasLevelOf, WritesArrayOf};
+ghost use Rattle.tree_graphs.specs.Problems.{IsProblem};
 ghost use Rattle.tree_graphs.specs.Class.{IsInDifferenceClass};
-ghost use Rattle.tree_graphs.specs.Level.{common_of, GivesGreatest};
+ghost use Rattle.tree_graphs.specs.Level.{GivesGreatest};
 ghost use Rattle.tree_graphs.specs.Simple.{IsSimple};
 ghost use Rattle.source_tree.specs.Checked.{IsCheckedIn};
 ghost use Rattle.source_tree.specs.Systems.{just, named_write, read_at, root_context, Occurrence};
@@ -19,25 +19,25 @@ use tree_graphs::{Closure, Graph, Writes, closure_of, cycles_of, edges_of, syste
 
 // The reader's domain rows.
 fn root(w: &Writes) -> Result<System, AllocError>
-    requires { IsAsked w.now }
     ensures { IfOk result (λ context. context ≡ root_of w.now) }
 {
     let vars = w.vars as u32;
     system_of(w.alloc, vars, w.read.statement.rows.as_slice())
 }
 
-// The writes that a read and a write of a nest name.
+// The writes that a read and a write name.
 fn writes_between<'a>(
     alloc: Global,
     read: Reference<'a>,
     write: Reference<'a>,
     level: usize,
 ) -> Writes<'a>
+    requires { IsProblem (length read.statement.now.loops) (occurrence_of read)
+        (occurrence_of write) level }
     ensures read { read_of result ≡ occurrence_of read.entry }
     ensures write { write_of result ≡ occurrence_of write.entry }
     ensures vars { result.vars ≡ depth_of_read result }
     ensures level { result.level ≡ level }
-    ensures common { result.common ≡ common_of (write_of result) (read_of result) }
 {
     let loops = read.statement.loops.as_slice();
     let rows = write.statement.rows.as_slice();
@@ -59,19 +59,15 @@ fn writes_between<'a>(
 
 // The read and the write of these numbers.
 fn looked_up<'a>(
-    alloc: Global,
     nest: &'a Nest,
     statement: u32,
     read: u32,
     writer: u32,
-    level: u32,
-) -> Writes<'a>
+) -> (Reference<'a>, Reference<'a>)
     requires { WritesArrayOf nest.now statement read writer }
-    ensures read { read_at nest.now statement read ≡ Some (read_of result) }
-    ensures write { named_write nest.now (read_of result) writer ≡ Some (write_of result) }
-    ensures vars { result.vars ≡ depth_of_read result }
-    ensures level { result.level ≡ level }
-    ensures common { result.common ≡ common_of (write_of result) (read_of result) }
+    ensures read { read_at nest.now statement read ≡ Some (occurrence_of result.0) }
+    ensures write { named_write nest.now (occurrence_of result.0) writer
+        ≡ Some (occurrence_of result.1) }
 {
     let reading = nest.statement(statement);
     let writing = nest.statement(writer);
@@ -88,7 +84,7 @@ fn looked_up<'a>(
         statement: writing,
         access: write,
     };
-    writes_between(alloc, read, write, level as usize)
+    (read, write)
 }
 
 /// The writes of one statement at one level before a read.
@@ -103,31 +99,29 @@ pub fn writes_of<'a>(
     requires class { IsInDifferenceClass nest.now statement read }
     requires writes { WritesArrayOf nest.now statement read writer }
     requires level { HasLevelOf nest.now statement read writer level }
-    ensures asked { IsAsked result }
     ensures stands { AreAsked nest.now (read_of result) (write_of result) result.level }
     ensures vars { result.vars ≡ depth_of_read result }
     ensures read { read_at nest.now statement read ≡ Some (read_of result) }
     ensures write { named_write nest.now (read_of result) writer ≡ Some (write_of result) }
     ensures level { result.level ≡ level }
 {
-    looked_up(alloc, nest, statement, read, writer, level)
+    let found = looked_up(nest, statement, read, writer);
+    writes_between(alloc, found.0, found.1, level as usize)
 }
 
 // The tree of a context, where no sum of edges from a loop variable back to itself is negative.
-fn closed_tree(w: &Writes, graph: &Graph, context: &System) -> Result<Tree, AllocError>
-    requires ready { AreReady w.now graph.now.edges.now graph.now.bounds.now }
-    requires context { IsContextOf w.now 3584 context.now }
-    ensures { IfOk result (IsAnswer w.now context.now 3584) }
+fn closed_tree(graph: &Graph, context: &System) -> Result<Tree, AllocError>
+    requires { IsContextOf graph.now.writes 3584 context.now }
+    ensures { IfOk result (IsAnswer graph.now.writes context.now 3584) }
 {
-    let cycles = cycles_of(w, graph)?;
-    conditions(w, graph, context, cycles.as_slice())
+    let cycles = cycles_of(graph)?;
+    conditions(graph, context, cycles.as_slice())
 }
 
 /// At each point that meets a context the greatest point of the writer at its level before the read, or zero where there is
 /// none (Feautrier 1991, over difference constraints).
 pub fn tree_of(w: &Writes, context: &System) -> Result<Tree, AllocError>
-    requires asked { IsAsked w.now }
-    requires context { IsContextOf w.now 3584 context.now }
+    requires { IsContextOf w.now 3584 context.now }
     ensures { IfOk result (IsAnswer w.now context.now 3584) }
 {
     let found = edges_of(w)?;
@@ -141,10 +135,11 @@ pub fn tree_of(w: &Writes, context: &System) -> Result<Tree, AllocError>
         }
         Closure::Closed(bounds) => {
             let graph = Graph {
+                writes: *w,
                 edges,
                 bounds: &bounds,
             };
-            closed_tree(w, &graph, context)
+            closed_tree(&graph, context)
         }
     }
 }

@@ -1,10 +1,11 @@
-ghost use Rattle.std.specs.Prelude.{◌≡◌, ◌≤◌, ◌<◌, ◌+◌, ◌*◌, ◌++◌, [], ◌∷◌, ℕ, List, drop, length, map, slice_get, take, IsTrue, Some, All, IfOk, OnOk};
+ghost use Rattle.std.specs.Prelude.{◌≡◌, ◌≤◌, ◌<◌, ◌+◌, ◌*◌, [], ◌∷◌, ℕ, List, drop, length, map, slice_get, take, IsTrue, Some, All, IfOk, OnOk};
 ghost use Rattle.std.specs.List.{list_all};
 ghost use Rattle.affine_core.specs.declared.form.Form.{Form as FormOf};
 ghost use Rattle.int_polyhedra.specs.declared.system.System.{System as SystemOf};
 ghost use Rattle.lex_max.specs.Answer.{IsAnswer, IsContextOf};
-ghost use Rattle.tree_graphs.specs.Asked.{depth_of_write, read_of, write_of, AreCells, IsAsked};
-ghost use Rattle.lex_max.specs.Choices.{chosen_place, AreCerts, AreChosen, AreReady};
+ghost use Rattle.tree_graphs.specs.Asked.{depth_of_write, read_of, write_of};
+ghost use Rattle.tree_graphs.specs.Problems.{AreCells};
+ghost use Rattle.lex_max.specs.Choices.{chosen_place, AreCerts, AreChosen};
 ghost use Rattle.lex_max.specs.Leaves.{after_levels, AddsProofs, AreOrderCerts, AreShown, HasAfter, IsAfterProof, IsBetweenProof, IsLeafOf};
 ghost use Rattle.tree_graphs.specs.Simple.{IsLightSum};
 ghost use Rattle.tree_graphs.specs.Joint.{later_systems, point_systems};
@@ -19,7 +20,7 @@ use affine_core::KeptForm;
 use int_polyhedra::{Proof, System, Term};
 use plain_data::Items;
 use source_tree::Tree;
-use std::alloc::AllocError;
+use std::alloc::{AllocError, Global};
 use tree_graphs::{Graph, Writes, append_from, sum_with_row};
 
 // Where the leaf's point is outside the domain: each row at the point, and that it is below 0.
@@ -89,6 +90,7 @@ fn terms_of(order: &[Items<Term>], row: usize) -> &[Term]
 }
 
 // Where the reader is before the leaf's point at this level.
+#[tactic(auto, using(tree_graphs::proofs::ProblemBounds::few_levels))]
 fn after_proof(
     w: &Writes,
     here: u32,
@@ -99,7 +101,6 @@ fn after_proof(
         × AreOrderCerts w.now here c context place order.now }
     requires level { HasAfter w.now level }
     requires here { here ≤ 4096 }
-    requires deep { w.now.level ≤ 6 }
     requires few { level ≤ 6 }
     ensures { IfOk result (λ proof. (c : Context) (context : SystemOf) (place : List FormOf)
         → AreOrderCerts w.now here c context place order.now
@@ -123,7 +124,6 @@ fn same_proof(w: &Writes, here: u32, order: &[Items<Term>]) -> Result<Proof, All
         × AreOrderCerts w.now here c context place order.now }
     requires level { w.now.level < w.now.common }
     requires here { here ≤ 4096 }
-    requires deep { w.now.level ≤ 6 }
     ensures { IfOk result (λ proof. (c : Context) (context : SystemOf) (place : List FormOf)
         → AreOrderCerts w.now here c context place order.now
         → IsRefuted (with_rows c (same_rows (reader_place (read_of w.now)) place)) proof
@@ -135,8 +135,6 @@ fn same_proof(w: &Writes, here: u32, order: &[Items<Term>]) -> Result<Proof, All
 
 // At how many levels the reader may be before a point of the writer.
 fn after_count(w: &Writes) -> usize
-    requires asked { IsAsked w.now }
-    requires few { w.now.common ≤ 6 }
     ensures levels { (l : ℕ) → l < result → HasAfter w.now l }
     ensures all { (place : List FormOf) → length (after_levels w.now place) ≤ result }
     ensures few { result ≤ 7 }
@@ -158,8 +156,6 @@ fn push_levels(
     requires certs { (c : Context) × (context : SystemOf) × (place : List FormOf)
         × AreOrderCerts w.now here c context place order.now }
     requires here { here ≤ 4096 }
-    requires deep { w.now.level ≤ 6 }
-    requires few { w.now.common ≤ 6 }
     ensures { OnOk result ((c : Context) (context : SystemOf) (place : List FormOf)
         → AreOrderCerts w.now here c context place order.now
         → AddsProofs (map (with_rows c) (after_levels w.now place)) proofs.old proofs.new) }
@@ -180,8 +176,6 @@ fn push_after(
     requires certs { (c : Context) × (context : SystemOf) × (place : List FormOf)
         × AreOrderCerts w.now here c context place order.now }
     requires here { here ≤ 4096 }
-    requires deep { w.now.level ≤ 6 }
-    requires few { w.now.common ≤ 6 }
     ensures { OnOk result ((c : Context) (context : SystemOf) (place : List FormOf)
         → AreOrderCerts w.now here c context place order.now
         → AddsProofs (after_systems (read_of w.now) c (write_of w.now) place)
@@ -197,57 +191,54 @@ fn push_after(
 // Where another point of the writer is between the leaf's point and the read, at this level of order behind the leaf's
 // point: it would be above the form that is chosen for the loop of that level.
 fn between_proof(
-    w: &Writes,
     graph: &Graph,
     here: u32,
     choices: &[Choice],
     level: usize,
 ) -> Result<Proof, AllocError>
-    requires ready { AreReady w.now graph.now.edges.now graph.now.bounds.now }
     requires chosen { (context : SystemOf)
-        × AreChosen w.now graph.now.edges.now graph.now.bounds.now context choices.now }
+        × AreChosen graph.now.writes graph.now.edges.now graph.now.bounds.now context choices.now }
     requires here { here ≤ 4096 }
-    requires level { level < depth_of_write w.now }
-    ensures { IfOk result (IsBetweenProof w.now graph.now.edges.now here choices.now level) }
+    requires level { level < depth_of_write graph.now.writes }
+    ensures { IfOk result
+        (IsBetweenProof graph.now.writes graph.now.edges.now here choices.now level) }
 {
-    let path = path_to(w, graph, &choices[level], level)?;
-    let mut terms = Items::new(w.alloc);
+    let path = path_to(graph, &choices[level], level)?;
+    let mut terms = Items::new(graph.writes.alloc);
     append_from(&mut terms, here, path.as_slice())?;
     let count = graph.edges.len() as u32;
     let behind = here + count;
     let row = level_row(behind, level);
-    sum_with_row(w.alloc, terms.as_slice(), row)
+    sum_with_row(graph.writes.alloc, terms.as_slice(), row)
 }
 
 // Where another point of the writer is between the leaf's point and the read.
 fn push_between(
     proofs: &mut Items<Proof>,
-    w: &Writes,
     graph: &Graph,
     here: u32,
     choices: &[Choice],
 ) -> Result<(), AllocError>
-    requires ready { AreReady w.now graph.now.edges.now graph.now.bounds.now }
     requires chosen { (context : SystemOf)
-        × AreChosen w.now graph.now.edges.now graph.now.bounds.now context choices.now }
+        × AreChosen graph.now.writes graph.now.edges.now graph.now.bounds.now context choices.now }
     requires here { here ≤ 4096 }
     ensures { OnOk result ((c : Context) (context : SystemOf)
-        → IsLeafOf w.now c context (chosen_place choices.now) here
-        → AddsProofs (later_systems (read_of w.now) (write_of w.now) w.now.level c
-        (chosen_place choices.now)) proofs.old proofs.new) }
+        → IsLeafOf graph.now.writes c context (chosen_place choices.now) here
+        → AddsProofs (later_systems (read_of graph.now.writes) (write_of graph.now.writes)
+        graph.now.writes.level c (chosen_place choices.now)) proofs.old proofs.new) }
 {
-    for level in 0..w.depth() {
-        proofs.push(between_proof(w, graph, here, choices, level)?)?;
+    for level in 0..graph.writes.depth() {
+        proofs.push(between_proof(graph, here, choices, level)?)?;
     }
     Ok(())
 }
 
-fn forms_of(w: &Writes, choices: &[Choice]) -> Result<Items<KeptForm>, AllocError>
+fn forms_of(alloc: Global, choices: &[Choice]) -> Result<Items<KeptForm>, AllocError>
     ensures { IfOk result (λ forms. forms ≡ chosen_place choices.now) }
 {
-    let mut forms = Items::new(w.alloc);
+    let mut forms = Items::new(alloc);
     for choice in choices {
-        let form = KeptForm::of(w.alloc, &choice.form)?;
+        let form = KeptForm::of(alloc, &choice.form)?;
         forms.push(form)?;
     }
     Ok(forms)
@@ -271,23 +262,22 @@ fn back(certs: &[Items<Term>], count: usize) -> &[Items<Term>]
 
 // The proofs of the Writer leaf of the chosen point.
 fn leaf_proofs(
-    w: &Writes,
     graph: &Graph,
     context: &System,
     choices: &[Choice],
     certs: &[Items<Term>],
 ) -> Result<Items<Proof>, AllocError>
-    requires ready { AreReady w.now graph.now.edges.now graph.now.bounds.now }
-    requires context { IsContextOf w.now 0 context.now }
-    requires chosen { AreChosen w.now graph.now.edges.now graph.now.bounds.now context.now
-        choices.now }
+    requires context { IsContextOf graph.now.writes 0 context.now }
+    requires chosen { AreChosen graph.now.writes graph.now.edges.now graph.now.bounds.now
+        context.now choices.now }
     requires certs { AreCerts context.now (chosen_place choices.now) graph.now.edges.now certs.now }
-    ensures refuted { IfOk result (λ proofs. (c : Context) → c.vars ≡ w.now.vars
+    ensures refuted { IfOk result (λ proofs. (c : Context) → c.vars ≡ graph.now.writes.vars
         → row_forms c.vars c.rows ≡ Some context.now.rows
-        → AreRefuted (point_systems (read_of w.now) (write_of w.now) w.now.level c
-        (chosen_place choices.now)) proofs) }
+        → AreRefuted (point_systems (read_of graph.now.writes) (write_of graph.now.writes)
+        graph.now.writes.level c (chosen_place choices.now)) proofs) }
     ensures light { IfOk result (All IsLightSum) }
 {
+    let w = &graph.writes;
     let here = context.rows.len() as u32;
     let domain = w.rows.len();
     let cells = 2 * w.write_forms.len();
@@ -296,25 +286,27 @@ fn leaf_proofs(
     push_cell(&mut proofs, w, here, front(back(certs, domain), cells))?;
     let before = domain + cells;
     push_after(&mut proofs, w, here, back(certs, before))?;
-    push_between(&mut proofs, w, graph, here, choices)?;
+    push_between(&mut proofs, graph, here, choices)?;
     Ok(proofs)
 }
 
 /// The Writer leaf of the chosen point, where the terms show each edge there.
 pub fn writer_leaf(
-    w: &Writes,
     graph: &Graph,
     context: &System,
     choices: &[Choice],
     certs: &[Items<Term>],
 ) -> Result<Tree, AllocError>
-    requires ready { AreReady w.now graph.now.edges.now graph.now.bounds.now }
-    requires context { IsContextOf w.now 0 context.now }
-    requires chosen { AreChosen w.now graph.now.edges.now graph.now.bounds.now context.now
-        choices.now }
+    requires context { IsContextOf graph.now.writes 0 context.now }
+    requires chosen { AreChosen graph.now.writes graph.now.edges.now graph.now.bounds.now
+        context.now choices.now }
     requires certs { AreCerts context.now (chosen_place choices.now) graph.now.edges.now certs.now }
-    ensures { IfOk result (λ tree. (tests : ℕ) → IsAnswer w.now context.now tests tree) }
+    ensures { IfOk result (λ tree. (tests : ℕ) → IsAnswer graph.now.writes context.now tests tree) }
 {
-    let proofs = leaf_proofs(w, graph, context, choices, certs)?;
-    Ok(Tree::Writer(w.write.number, forms_of(w, choices)?, proofs))
+    let proofs = leaf_proofs(graph, context, choices, certs)?;
+    Ok(Tree::Writer(
+        graph.writes.write.number,
+        forms_of(graph.writes.alloc, choices)?,
+        proofs,
+    ))
 }

@@ -4,7 +4,7 @@ ghost use Rattle.int_polyhedra.specs.declared.system.System.{System as SystemOf}
 ghost use Rattle.int_polyhedra.specs.Steps.{negation_of};
 ghost use Rattle.tree_graphs.specs.declared.edges.Edge.{Edge as EdgeOf};
 ghost use Rattle.tree_graphs.specs.Cycles.{IsContradiction, IsCycle};
-ghost use Rattle.tree_graphs.specs.Facts.{form_parts, IsContext, IsFact};
+ghost use Rattle.tree_graphs.specs.Facts.{form_parts, IsFact};
 ghost use Rattle.tree_graphs.specs.Rounds.{IsGraphOf};
 ghost use Rattle.lex_max.specs.Answer.{IsAnswer, IsContextOf};
 ghost use Rattle.tree_sums.specs.Parts.{IsWithin};
@@ -14,7 +14,9 @@ use int_polyhedra::{Proof, System, Term};
 use plain_data::Items;
 use source_tree::Tree;
 use std::alloc::AllocError;
-use tree_graphs::{Cycle, Writes, append, append_from, known, once, opposite, with_row};
+use tree_graphs::{
+    Context, Cycle, Graph, Writes, append, append_from, known, once, opposite, with_row,
+};
 
 /// The Zero leaf of a context that shows `-form - 1` by some terms, where the form is the sum of rows on the writer's
 /// point.
@@ -38,44 +40,57 @@ pub fn zero_leaf(
 }
 
 /// The Zero leaf of the context where a cycle's form is below 0.
-pub fn zero_below(w: &Writes, context: &System, cycle: &Cycle) -> Result<Tree, AllocError>
-    requires context { IsContextOf w.now 1 context.now }
-    requires cycle { (edges : List EdgeOf) × IsGraphOf w.now edges
-        × IsCycle w.now.vars edges cycle.now }
+pub fn zero_below(graph: &Graph, context: &System, cycle: &Cycle) -> Result<Tree, AllocError>
+    requires context { IsContextOf graph.now.writes 1 context.now }
+    requires cycle { IsCycle graph.now.writes.vars graph.now.edges.now cycle.now }
     ensures { IfOk result (λ tree. (below : SystemOf) (row : FormOf) (tests : ℕ)
         → negation_of cycle.now.form ≡ Some row
         → below ≡ record context.now { rows = context.now.rows ++ row ∷ [] }
-        → IsAnswer w.now below tests tree) }
+        → IsAnswer graph.now.writes below tests tree) }
 {
-    let own = once(w.alloc, context.rows.len() as u32)?;
+    let own = once(graph.writes.alloc, context.rows.len() as u32)?;
     let row = opposite(&cycle.form);
     let below = with_row(context, row)?;
-    zero_leaf(w, &below, own.as_slice(), cycle.terms.as_slice())
+    zero_leaf(
+        &graph.writes,
+        &below,
+        own.as_slice(),
+        cycle.terms.as_slice(),
+    )
 }
 
 // Terms that show `-form - 1`, if the form is known to be below 0.
-fn known_below(context: &System, form: &Form) -> Result<Option<Items<Term>>, AllocError>
-    requires context { IsContext context.now }
-    requires over { length form.now.coefs ≡ context.now.vars }
+fn known_below(context: &Context, form: &Form) -> Result<Option<Items<Term>>, AllocError>
+    requires over { length form.now.coefs ≡ context.now.system.now.vars }
     requires small { IsWithin (2 ^ 60) form.now }
     ensures { IfOk result (λ found. IfSome found (λ terms. (row : FormOf)
-        → negation_of form.now ≡ Some row → IsFact context.now 65536 (form_parts row) terms)) }
+        → negation_of form.now ≡ Some row
+        → IsFact context.now.system.now 65536 (form_parts row) terms)) }
 {
     let row = opposite(form);
     known(context, &row)
 }
 
 /// The Zero leaf by a cycle, if it is known to be below 0.
-pub fn refuted_by(w: &Writes, context: &System, cycle: &Cycle) -> Result<Option<Tree>, AllocError>
-    requires context { IsContextOf w.now 0 context.now }
-    requires cycle { (edges : List EdgeOf) × IsGraphOf w.now edges
-        × IsCycle w.now.vars edges cycle.now }
+pub fn refuted_by(
+    graph: &Graph,
+    context: &System,
+    cycle: &Cycle,
+) -> Result<Option<Tree>, AllocError>
+    requires context { IsContextOf graph.now.writes 0 context.now }
+    requires cycle { IsCycle graph.now.writes.vars graph.now.edges.now cycle.now }
     ensures { IfOk result (λ leaf. IfSome leaf (λ tree. (tests : ℕ)
-        → IsAnswer w.now context.now tests tree)) }
+        → IsAnswer graph.now.writes context.now tests tree)) }
 {
-    match known_below(context, &cycle.form)? {
+    let here = Context { system: context };
+    match known_below(&here, &cycle.form)? {
         Some(shown) => {
-            let leaf = zero_leaf(w, context, shown.as_slice(), cycle.terms.as_slice());
+            let leaf = zero_leaf(
+                &graph.writes,
+                context,
+                shown.as_slice(),
+                cycle.terms.as_slice(),
+            );
             drop(shown);
             Ok(Some(leaf?))
         }
@@ -85,21 +100,20 @@ pub fn refuted_by(w: &Writes, context: &System, cycle: &Cycle) -> Result<Option<
 
 /// The Zero leaf by the first cycle that is known to be below 0, if there is one.
 pub fn refuted_leaf(
-    w: &Writes,
+    graph: &Graph,
     context: &System,
     cycles: &[Cycle],
 ) -> Result<Option<Tree>, AllocError>
-    requires context { IsContextOf w.now 0 context.now }
-    requires cycles { (edges : List EdgeOf) × IsGraphOf w.now edges
-        × All (IsCycle w.now.vars edges) cycles.now }
+    requires context { IsContextOf graph.now.writes 0 context.now }
+    requires cycles { All (IsCycle graph.now.writes.vars graph.now.edges.now) cycles.now }
     ensures { IfOk result (λ leaf. IfSome leaf (λ tree. (tests : ℕ)
-        → IsAnswer w.now context.now tests tree)) }
+        → IsAnswer graph.now.writes context.now tests tree)) }
 {
     let Some((cycle, cycles)) = cycles.split_first() else {
         return Ok(None);
     };
-    match refuted_by(w, context, cycle)? {
+    match refuted_by(graph, context, cycle)? {
         Some(leaf) => Ok(Some(leaf)),
-        None => refuted_leaf(w, context, cycles),
+        None => refuted_leaf(graph, context, cycles),
     }
 }

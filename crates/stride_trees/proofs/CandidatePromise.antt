@@ -17,7 +17,7 @@ use Rattle.affine_core.specs.Affine.{form_at}
 use Rattle.affine_core.proofs.Integers.{int_le-true}
 use Rattle.int_polyhedra.specs.declared.system.System.{System}
 use Rattle.int_polyhedra.specs.Systems.{AreOver}
-use Rattle.lex_max.specs.Answer.{IsAnswer, IsContextOf}
+use Rattle.lex_max.specs.Answer.{IsContextOf}
 use Rattle.tree_graphs.specs.Asked.{read_of as asked_read, write_of as asked_write, HasLevelOf}
 use Rattle.lex_max.specs.Leaves.{IsMadeFrom}
 use Rattle.tree_graphs.specs.Level.{common_of, GivesGreatest, IsGreatest}
@@ -44,10 +44,10 @@ use Rattle.source_tree.proofs.MetRows.{AreMet}
 use Rattle.stride_trees.specs.Candidates.{at_test as cut_test, at_writer as cut_writer, at_zero as cut_zero, IsCutTree}
 use Rattle.stride_trees.specs.Candidates.{IsStrideTree}
 use Rattle.tree_cuts.specs.Class.{stride_count, writes_strides, IsInStrideClass}
-use Rattle.stride_trees.specs.Contexts.{first_places, IsConvertedTree, IsTestedContext, IsToldTree}
+use Rattle.stride_trees.specs.Contexts.{IsTestedContext, IsToldTree}
 use Rattle.stride_trees.specs.Problem.{told_read, told_write}
 use Rattle.stride_trees.specs.Strides.{depth_of_read, read_of, root_of, tested_context, tests_of, write_of, ArePlaces, AreStrided}
-use Rattle.stride_trees.specs.Strides.{IsLastTree, IsSmallContext, IsStrided, IsTested}
+use Rattle.stride_trees.specs.Strides.{IsCheckedAt, IsLastTree, IsSmallContext, IsStrided, IsTested}
 use Rattle.stride_trees.specs.declared.strides.Strides.{Strides}
 use Rattle.stride_trees.proofs.ProblemBounds.{are_fitting, AreFitting}
 use Rattle.stride_trees.proofs.TreeValues.{by_tests, none_writes, same_greatest, AreShort}
@@ -167,7 +167,7 @@ module _ (s : Strides) (strided : IsStrided s) where
   places = range_with_len 0 count
 
   -- the context of all tests has them at the places that follow each other
-  pub tested_is : IsTestedContext s places (root_of s + 2 * count) (tested_context s)
+  tested_is : IsTestedContext s places (root_of s + 2 * count) (tested_context s)
   tested_is = record {
     small = divided_small s (tests_of s) (root_context (read_of s)) (root_of s) strided (tests_are s) (omega arith)
         (root_small s strided);
@@ -178,9 +178,6 @@ module _ (s : Strides) (strided : IsStrided s) where
 
   few_count : count ≤ 6
   few_count = few_tests s strided
-
-  pub places_small : All (λ i. i < 6) places
-  places_small = All-range_with_len 0 count 6 (omega (arith, few_count))
 
   tested_vars : (tested_context s).vars ≡ depth_of_read s + count
   tested_vars = divided_vars (root_context (read_of s)) (tests_of s)
@@ -223,77 +220,49 @@ module _ (s : Strides) (strided : IsStrided s) where
         few = omega (arith, rows_count context made, few_count, f.few_reader_rows);
       }
 
-  -- where the tree of the problem is to be made the statement's own
-  pub last_asked : (w : Writes) (context : System) (told : Tree) (vars here : ℕ) (given : List ℕ)
-      → IsMadeFrom (tested_context s) context → w.vars ≡ vars → context.vars ≡ vars → given ≡ places
-      → asked_read w ≡ told_read vars given (read_of s) (write_of s) → asked_write w ≡ told_write (write_of s)
-      → w.level ≡ s.level → IsAnswer w context 3584 told → here ≡ length context.rows
-      → (c : Context) × IsTestedContext s given here c
-      × IsCheckedFor (told_read c.vars given (read_of s) (write_of s)) (told_write (write_of s)) s.level c told
-  last_asked w context told vars here given made w_vars c_vars given_is read write level answer here_is =
+  -- the tree of the problem over quotients is checked there
+  pub last_asked : (context : System) (told : Tree) → IsMadeFrom (tested_context s) context
+      → IsToldTree s places context told
+      → IsCheckedFor (told_read (tested_context s).vars places (read_of s) (write_of s)) (told_write (write_of s)) s.level
+      (tested_context s) told
+  last_asked context told made t =
       let c : Context = tested_context s in
-      let same : c.vars ≡ vars = sym made.vars ∙ c_vars in (
-        c,
-        subst (λ given. IsTestedContext s given here c) (sym given_is)
-            (subst (λ n. IsTestedContext s places n c) (sym (here_is ∙ rows_count context made)) tested_is),
-        subst (λ r. IsCheckedFor r (told_write (write_of s)) s.level c told)
-            (read ∙ ap (λ n. told_read n given (read_of s) (write_of s)) (sym same))
-            (subst (λ w'. IsCheckedFor (asked_read w) w' s.level c told) write
-            (subst (λ l. IsCheckedFor (asked_read w) (asked_write w) l c told) level
-            (answer.checked c (same ∙ sym w_vars) made.rows))),
-      )
+      subst (λ r. IsCheckedFor r (told_write (write_of s)) s.level c told)
+      (t.read ∙ ap (λ n. told_read n places (read_of s) (write_of s)) made.vars)
+      (subst (λ w'. IsCheckedFor (asked_read t.w) w' s.level c told) t.write
+      (subst (λ l. IsCheckedFor (asked_read t.w) (asked_write t.w) l c told) t.level
+      (t.answer.checked c (sym made.vars ∙ sym t.vars) made.rows)))
+
+  pub last_small : (context : System) → IsMadeFrom (tested_context s) context
+      → IsSmallContext (tested_context s) (length context.rows)
+  last_small context made =
+      subst (IsSmallContext (tested_context s)) (sym (rows_count context made)) tested_is.small
 
   -- the answer of the problem over quotients, made the statement's own
-  pub last_is : (w : Writes) (context : System) (told own : Tree) (vars : ℕ)
-      → IsMadeFrom (tested_context s) context → w.vars ≡ vars → context.vars ≡ vars
-      → asked_read w ≡ told_read vars places (read_of s) (write_of s) → asked_write w ≡ told_write (write_of s)
-      → w.level ≡ s.level → IsAnswer w context 3584 told → IsConvertedTree s places (length context.rows) told own
-      → IsLastTree s own
-  last_is w context told own vars made w_vars c_vars read write level answer h =
+  pub last_is : (context : System) (told own : Tree) → IsMadeFrom (tested_context s) context
+      → IsToldTree s places context told → IsCheckedAt s (tested_context s) own
+      → IsCutTree (read_of s) (write_of s) s.level 3584 (tested_context s) own
+      → ((values : List ℤ) → gives own values ≡ gives told values) → IsLastTree s own
+  last_is context told own made t checked cuts same_values =
       let c : Context = tested_context s in
-      let same : c.vars ≡ vars = sym made.vars ∙ c_vars in
-      let here : length context.rows ≡ root_of s + 2 * count = omega (
-        arith,
-        forms_count c.vars c.rows context.rows made.rows,
-        divided_count (root_context (read_of s)) (tests_of s),
-        taken_count s.read.statement.now.rows,
-      ) in
-      let at : IsTestedContext s places (length context.rows) c =
-      subst (λ n. IsTestedContext s places n c) (sym here) tested_is in
-      let read_here : asked_read w ≡ told_read c.vars places (read_of s) (write_of s) =
-      read ∙ ap (λ n. told_read n places (read_of s) (write_of s)) (sym same) in
-      let checked : IsCheckedFor (told_read c.vars places (read_of s) (write_of s)) (told_write (write_of s)) s.level c told
-      = subst (λ r. IsCheckedFor r (told_write (write_of s)) s.level c told) read_here
-      (subst (λ w'. IsCheckedFor (asked_read w) w' s.level c told) write
-      (subst (λ l. IsCheckedFor (asked_read w) (asked_write w) l c told) level
-      (answer.checked c (same ∙ sym w_vars) made.rows))) in
-      let both = h.checked c 3584 at checked answer.simple in
+      let read_here : asked_read t.w ≡ told_read c.vars places (read_of s) (write_of s) =
+      t.read ∙ ap (λ n. told_read n places (read_of s) (write_of s)) made.vars in
       record {
-        checked = both.0;
-        cuts = both.1;
+        checked = checked;
+        cuts = cuts;
         greatest = λ x more long whole met.
             (let met' : AreMet c.rows (x ++ more) = all_met c.rows (x ++ more) met in
-            let g : IsGreatest (asked_read w) (asked_write w) w.level (x ++ more) (gives told (x ++ more)) =
-            answer.greatest (x ++ more) (whole ∙ same ∙ sym w_vars)
+            let g : IsGreatest (asked_read t.w) (asked_write t.w) t.w.level (x ++ more) (gives told (x ++ more)) =
+            t.answer.greatest (x ++ more) (whole ∙ sym made.vars ∙ sym t.vars)
             (met_made c.vars c.rows context.rows (x ++ more) made.rows met') in
             let g' : IsGreatest (told_read c.vars places (read_of s) (write_of s)) (told_write (write_of s)) s.level
             (x ++ more) (gives told (x ++ more))
             = subst (λ r. IsGreatest r (told_write (write_of s)) s.level (x ++ more) (gives told (x ++ more))) read_here
-            (subst (λ w'. IsGreatest (asked_read w) w' s.level (x ++ more) (gives told (x ++ more))) write
-            (subst (λ l. IsGreatest (asked_read w) (asked_write w) l (x ++ more) (gives told (x ++ more))) level g)) in
-            subst (IsGreatest (read_of s) (write_of s) s.level x) (sym (h.same (x ++ more)))
-            (same_greatest s strided c places x more long met' at.tests (gives told (x ++ more)) g'));
+            (subst (λ w'. IsGreatest (asked_read t.w) w' s.level (x ++ more) (gives told (x ++ more))) t.write
+            (subst (λ l. IsGreatest (asked_read t.w) (asked_write t.w) l (x ++ more) (gives told (x ++ more))) t.level g)) in
+            subst (IsGreatest (read_of s) (write_of s) s.level x) (sym (same_values (x ++ more)))
+            (same_greatest s strided c places x more long met' tested_is.tests (gives told (x ++ more)) g'));
       }
-
--- the same of what is passed and returned
-pub last_made : (s : Strides) → IsStrided s → (context : System) (told own : Tree) (here : ℕ) (given : List ℕ)
-    → IsMadeFrom (tested_context s) context → given ≡ first_places s → here ≡ length context.rows
-    → IsToldTree s given context told → IsConvertedTree s given here told own → IsLastTree s own
-last_made s strided context told own here given made given_is here_is t h =
-    last_is s strided t.w context told own context.vars made t.vars refl
-    (t.read ∙ ap (λ places. told_read context.vars places (read_of s) (write_of s)) given_is) t.write t.level t.answer
-    (subst (λ n. IsConvertedTree s (first_places s) n told own) here_is
-    (subst (λ places. IsConvertedTree s places here told own) given_is h))
 
 -- The whole tree
 

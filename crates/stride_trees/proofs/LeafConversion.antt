@@ -1,590 +1,412 @@
--- A tree of the problem over quotients, made one of the statement's own.
+-- A leaf below all answers, for one writer.
 --
--- Below a Test the context has one row more, so the rows of the tests of divisibility keep their numbers. At a Writer
--- leaf the systems fall into those of the place, those that the read is not before it, which are the same for the
--- statement, and those of a write between; a Zero leaf has one of a write. Each proof is made from the one told, in
--- order, so by induction over the tree all are refuted.
-use Rattle.std.proofs.Common.{◌≡◌, ◌==◌, ◌+◌, ◌*◌, ◌^◌, ◌≤◌, ℕ, zero, suc, pos, negsuc, List, [], ◌∷◌, ◌++◌, length, map}
-use Rattle.std.proofs.Common.{false, cond, refl, sym, ap, ◌∙◌, subst, arith, append_assoc, length-append}
-use Rattle.std.specs.Prelude.{Some, All, int_le, nat_lt}
-use Rattle.std.proofs.lemmas.Bool.{and_from, eq-eqb}
-use Rattle.std.proofs.lemmas.List.{length-map, length-replicate}
-use Rattle.std.proofs.lemmas.List.Elements.{All-nil, All-cons, All-append, All-head, All-tail, All-weaker}
-use Rattle.sanlp.proofs.Precedence.{common_loops-same}
+-- Where its tests all say yes its context has them, so its systems are converted; else one of them says no there. The
+-- order rows of its levels, and those of a place before it, are as many as were counted, and small.
+use Rattle.std.proofs.Common.{◌≡◌, ◌==◌, ◌+◌, ◌*◌, ◌≤◌, ◌<◌, ◌^◌, ℕ, zero, suc, List, [], ◌∷◌, ◌++◌, length, map, Bool, true, false}
+use Rattle.std.proofs.Common.{◌&&◌, cond, refl, sym, ap, ◌∙◌, subst, arith}
+use Rattle.std.specs.Prelude.{Option, Some, None, All, IfSome, drop, nat_lt, slice_get, take}
+use Rattle.std.specs.List.{AllZip, flat_map, list_all}
+use Rattle.std.proofs.lemmas.List.{length-map, map-append}
+use Rattle.std.proofs.lemmas.Bool.{eq-eqb, ne_eqb}
+use Rattle.std.proofs.lemmas.List.Elements.{All-append, All-cons, All-drop, All-head, All-nil, All-tail, All-take}
+use Rattle.std.proofs.lemmas.Option.{same_Some, slice_get_within}
+use Rattle.std.proofs.lemmas.Simd.{map-map}
 use Rattle.affine_core.specs.declared.form.Form.{Form}
-use Rattle.affine_core.specs.Affine.{constant_form, form_at, form_product}
-use Rattle.affine_core.proofs.Linear.{length-sums}
+use Rattle.tree_order.specs.Candidates.{levels_before}
+use Rattle.stride_trees.specs.Writers.{asked, is_never, no_place, unasked, IsPlaceOf, IsTestAt, IsWriterOf}
+use Rattle.stride_trees.specs.Leaves.{after_counts, all_orders, answer_at, context_of, counts_behind, fact_context, is_told}
+use Rattle.stride_trees.specs.Leaves.{order_counts, own_context, own_order_number, own_order_system, own_systems, told_order_systems}
+use Rattle.stride_trees.specs.Leaves.{told_systems, which_in, which_of, write_vars, AddsOrderProofs, AddsProofs, HaveOrderRows, IsAnswered}
+use Rattle.stride_trees.specs.Leaves.{IsAtLeaf, IsBelow, IsFurther, IsRefusal, IsRefusalAmong, IsRefusedContext, IsWriterIn}
+use Rattle.stride_trees.specs.declared.leaves.Answered.{Answered}
+use Rattle.stride_trees.specs.declared.leaves.Just.{Just}
+use Rattle.stride_trees.specs.declared.leaves.Refusal.{Refusal}
+use Rattle.stride_trees.specs.declared.writers.Writer.{Writer}
 use Rattle.int_polyhedra.specs.declared.system.Proof.{Proof}
+use Rattle.stride_trees.proofs.WriterTests.{asked_at, no_test_in, tests_asked, tests_in, told_asked, HasAnswers, IsNoTestIn}
+use Rattle.stride_trees.proofs.Below.{answer_row, vars_are}
+use Rattle.stride_trees.proofs.LevelCounts.{counts_few, orders_made, order_lengths, AreNear}
 use Rattle.tree_graphs.specs.Level.{common_of}
-use Rattle.tree_graphs.specs.Simple.{IsLightSum, IsSimple}
-use Rattle.tree_graphs.specs.Joint.{head_systems, later_systems, none_systems, point_systems, read_and_write, IsCheckedFor}
-use Rattle.tree_graphs.proofs.Just.{later_system, none_in, none_system, point_in}
-use Rattle.tree_graphs.proofs.OrderEdges.{length_variables}
-use Rattle.tree_graphs.proofs.EdgeSums.{over_append}
-use Rattle.tree_graphs.proofs.MadeRows.{more_made, opposite_made, taken_made}
-use Rattle.tree_graphs.proofs.Small.{negative_over, opposite_fits, opposite_form, opposite_within}
-use Rattle.tree_graphs.proofs.RowBounds.{small_append, small_equal, small_less}
-use Rattle.tree_graphs.proofs.RowBounds.{AreSmall, AreTaken, IsSmallLevel}
-use Rattle.tree_graphs.proofs.Nodes.{checked_point, checked_test, checked_zero, simple_both, simple_none}
-use Rattle.tree_graphs.proofs.Nodes.{simple_point, AreBothChecked, AreBothSimple, IsCheckedPoint, IsSimplePoint}
-use Rattle.plain_data.proofs.Tests.{ltb-same}
-use Rattle.plain_data.proofs.Lists.{slice_get-append_some}
+use Rattle.source_tree.specs.declared.reference.Reference.{Reference}
+use Rattle.tree_graphs.proofs.OrderEdges.{length_variables, variable_over, variable_within}
+use Rattle.plain_data.proofs.Lists.{All-slice_get}
 use Rattle.tree_sums.specs.Parts.{IsWithin}
 use Rattle.tree_sums.proofs.Within.{IsWithin-weaker}
-use Rattle.source_tree.specs.Checked.{at_test as test_in, AreRefuted, HaveVariables}
-use Rattle.source_tree.specs.Gives.{gives}
-use Rattle.source_tree.specs.Places.{at_place, before_rows, differ_rows, order_rows}
-use Rattle.source_tree.specs.Rows.{RowExpr, RowSystem, Take, below_zero, equal_rows, minus, one_less, row_forms}
-use Rattle.source_tree.specs.Systems.{Context, Occurrence, after_systems, cell_systems, more_rows}
-use Rattle.source_tree.specs.Systems.{outside_systems}
-use Rattle.source_tree.specs.Systems.{reader_place, test_no, test_yes, with_rows, writer_place}
-use Rattle.source_tree.specs.declared.tree.Tree.{Tree}
-use Rattle.source_tree.specs.declared.tree.Tree.TheVariants.{Writer, Zero}
-use Rattle.source_tree.specs.declared.tree.Tree.TheViews.{Test}
-use Rattle.source_tree.proofs.Gives.{gives-Test, gives-Writer, gives-Zero}
-use Rattle.source_tree.proofs.Refutations.{AreRefuted-append, length-AreRefuted}
-use Rattle.stride_trees.specs.Candidates.{at_test as cut_test, at_writer as cut_writer, at_zero as cut_zero, order_number}
-use Rattle.stride_trees.specs.Candidates.{AreCutSums, AreNoneCutSums, AreWriterCutSums, IsCutTree}
-use Rattle.stride_trees.specs.Contexts.{outside_cell_systems, own_system, told_system, AddsConverted}
-use Rattle.stride_trees.specs.Contexts.{AreOrders, AreTestsIn, IsConvertedTree, IsPlaceIn, IsTestedContext}
-use Rattle.stride_trees.specs.Problem.{problem_write, told_read, told_write}
-use Rattle.tree_cuts.specs.Sources.{divided_form, next_place, places_behind}
-use Rattle.stride_trees.specs.Strides.{depth_of_read, depth_of_write, read_of, root_of, write_of, IsSmallContext, IsStrided}
+use Rattle.sanlp.proofs.Precedence.{common_first, common_second}
+use Rattle.source_tree.specs.Checked.{HaveVariables}
+use Rattle.source_tree.specs.Places.{before_rows, variables}
+use Rattle.source_tree.specs.Rows.{RowExpr, RowSystem, Take}
+use Rattle.source_tree.specs.Systems.{Context, Occurrence, Which, chosen_levels, every, just, reader_place, root_context, writer_place, MayName}
+use Rattle.source_tree.specs.References.{occurrence_of}
+use Rattle.stride_trees.specs.Contexts.{told_system, AreMadeSmall, IsTestedContext, IsUndividedContext}
+use Rattle.stride_trees.specs.Divisions.{never_divides}
+use Rattle.stride_trees.specs.Problem.{told_write}
+use Rattle.stride_trees.specs.Strides.{depth_of_read, depth_of_write, read_of, root_of, tests_of, write_of, IsTestOf}
+use Rattle.stride_trees.specs.declared.divisions.Division.{Division}
 use Rattle.stride_trees.specs.declared.strides.Strides.{Strides}
-use Rattle.stride_trees.proofs.ProblemBounds.{are_fitting, AreFitting}
-use Rattle.stride_trees.proofs.Lists.{forms_count}
-use Rattle.stride_trees.proofs.LevelOrders as of_level
-use Rattle.stride_trees.proofs.LevelOrders.{made_small}
-use Rattle.stride_trees.proofs.SystemConversion.{reads_count}
+use Rattle.stride_trees.proofs.TestCounts.{tests_are}
 
--- Contexts below a Test
+zip_at : {X Y : Type 0} (R : X → Y → Type 0) (xs : List X) (ys : List Y) (k : ℕ) (x : X) (y : Y) → AllZip R xs ys
+    → slice_get xs k ≡ Some x → slice_get ys k ≡ Some y → R x y
+zip_at R [] ys k x y h e f = absurd (let no : None ≡ Some x = e in cc)
+zip_at R (a ∷ xs) [] k x y h e f = absurd h
+zip_at R (a ∷ xs) (b ∷ ys) zero x y h e f =
+    subst (λ a. R a y) (same_Some a x e) (subst (R a) (same_Some b y f) h.0)
+zip_at R (a ∷ xs) (b ∷ ys) (suc k) x y h e f = zip_at R xs ys k x y h.1 e f
 
-more_tests : (c : Context) (rows : List RowExpr) (depth root : ℕ) (places : List ℕ) (writes reads : List Form)
-    → AreTestsIn c depth root places writes reads → AreTestsIn (more_rows c rows) depth root places writes reads
-more_tests c rows depth root places [] reads h = tt
-more_tests c rows depth root places (write ∷ writes) [] h = tt
-more_tests c rows depth root places (write ∷ writes) (read ∷ reads) h = (
-  λ x is. (let t = h.0 x is in
-      record {
-        inside = t.inside;
-        low = slice_get-append_some c.rows rows (root + 2 * next_place places) _ t.low;
-        high = slice_get-append_some c.rows rows (root + 2 * next_place places + 1) _ t.high;
-      }),
-  more_tests c rows depth root (places_behind write places) writes reads h.1,
-)
+pub zip_count : {X Y : Type 0} (R : X → Y → Type 0) (xs : List X) (ys : List Y) → AllZip R xs ys → length xs ≡ length ys
+zip_count R [] [] h = refl
+zip_count R [] (y ∷ ys) h = absurd h
+zip_count R (x ∷ xs) [] h = absurd h
+zip_count R (x ∷ xs) (y ∷ ys) h = ap suc (zip_count R xs ys h.1)
 
-small_more : (here : ℕ) (c : Context) (e : RowExpr) (f : Form) → IsSmallContext c here
-    → ((rows : List Form) → row_forms c.vars c.rows ≡ Some rows
-    → row_forms c.vars (c.rows ++ e ∷ []) ≡ Some (rows ++ f ∷ []))
-    → length f.coefs ≡ c.vars → IsWithin (2 ^ 50) f → IsSmallContext (more_rows c (e ∷ [])) (here + 1)
-small_more here c e f h made over within = record {
-  rows = h.rows ++ f ∷ [];
-  made = made h.rows h.made;
-  count = omega (arith, length-append h.rows (f ∷ []), h.count);
-  over = over_append c.vars h.rows (f ∷ []) h.over (and_from _ _ (eq-eqb (length f.coefs) c.vars over) refl);
-  within = All-append (IsWithin (2 ^ 50)) h.rows (f ∷ []) h.within
-      (All-cons (IsWithin (2 ^ 50)) f [] within (All-nil _));
-}
+-- Answers
 
-pub small_yes : (here : ℕ) (c : Context) (form : Form) → IsSmallContext c here → length form.coefs ≡ c.vars
-    → IsWithin (2 ^ 49 + 1) form → IsSmallContext (test_yes c form) (here + 1)
-small_yes here c form h over within =
-    small_more here c (Take form) form h
-    (λ rows made. more_made c rows (Take form) form made (taken_made c.vars form over)) over
-    (IsWithin-weaker (2 ^ 49 + 1) (2 ^ 50) form (omega arith) within)
+pub below_answers : (w : Answered) (here : ℕ) (c : Context) → IsBelow w here c
+    → HasAnswers c (length w.read.statement.now.loops) (length w.read.statement.now.rows) w.tests.now w.answers.now
+below_answers w here c h =
+    let r : Occurrence = occurrence_of w.read in
+    let tests : List Division = w.tests.now in
+    let answers : List Bool = w.answers.now in
+    let vars : (context_of w).vars ≡ length r.statement.loops + length answers =
+    vars_are (root_context r) tests answers (omega (arith, h.all)) in
+    record {
+      inside = λ k lt. omega (arith, ap (λ (c : Context). c.vars) h.is, vars, h.all, lt);
+      row = λ k i test answer e t a is.
+          ap (λ (c : Context). slice_get c.rows (length r.statement.rows + (2 * k + i))) h.is
+          ∙ ap (λ n. slice_get ((context_of w).rows ++ h.more) (n + (2 * k + i)))
+          (sym (length-map r.statement.rows Take))
+          ∙ answer_row (root_context r) tests answers h.more k i test answer e t a is;
+    }
 
-pub small_no : (here : ℕ) (c : Context) (form : Form) → IsSmallContext c here → length form.coefs ≡ c.vars
-    → IsWithin (2 ^ 49 + 1) form → IsSmallContext (test_no c form) (here + 1)
-small_no here c form h over within =
-    let other : Form = opposite_form form in
-    small_more here c (below_zero (Take form)) other h
-    (λ rows made. more_made c rows (below_zero (Take form)) other made
-    (opposite_made c.vars form other over
-    (opposite_fits form (IsWithin-weaker (2 ^ 49 + 1) (2 ^ 60) form (omega arith) within))))
-    (opposite_over form ∙ over)
-    (IsWithin-weaker (2 ^ 49 + 1 + 1) (2 ^ 50) other (omega arith) (opposite_within (2 ^ 49 + 1) form within)) where
-      opposite_over : (f : Form) → length (opposite_form f).coefs ≡ length f.coefs
-      opposite_over f =
-          let constant : Form = constant_form (length f.coefs) (negsuc 0) in
-          let long : length constant.coefs ≡ length f.coefs = length-replicate (length f.coefs) (pos 0) in
-          length-sums (form_product (negsuc 0) f).coefs constant.coefs (omega (arith, negative_over f, long))
-          ∙ negative_over f
-
-tested_more : (s : Strides) (places : List ℕ) (here : ℕ) (c : Context) (e : RowExpr) → IsTestedContext s places here c
-    → IsSmallContext (more_rows c (e ∷ [])) (here + 1) → IsTestedContext s places (here + 1) (more_rows c (e ∷ []))
-tested_more s places here c e h small = record {
-  small = small;
-  reader = h.reader;
-  tests = more_tests c (e ∷ []) (depth_of_read s) (root_of s) places (write_of s).access.subscripts
-      (read_of s).access.subscripts h.tests;
-}
-
-pub tested_yes : (s : Strides) (places : List ℕ) (here : ℕ) (c : Context) (form : Form) → IsTestedContext s places here c
-    → length form.coefs ≡ c.vars → IsWithin (2 ^ 49 + 1) form → IsTestedContext s places (here + 1) (test_yes c form)
-tested_yes s places here c form h over within =
-    tested_more s places here c (Take form) h (small_yes here c form h.small over within)
-
-pub tested_no : (s : Strides) (places : List ℕ) (here : ℕ) (c : Context) (form : Form) → IsTestedContext s places here c
-    → length form.coefs ≡ c.vars → IsWithin (2 ^ 49 + 1) form → IsTestedContext s places (here + 1) (test_no c form)
-tested_no s places here c form h over within =
-    tested_more s places here c (below_zero (Take form)) h (small_no here c form h.small over within)
-
--- Orders
-
-abbrev SmallOrders : ℕ → ℕ → List RowExpr → List (List RowExpr) → Type 0
-SmallOrders vars more level [] = Unit {0}
-SmallOrders vars more level (rows ∷ further) =
-    (length (level ++ rows) ≡ more) × AreSmall vars (level ++ rows) × SmallOrders vars (more + 2) level further
-
-pub orders_made : (vars more : ℕ) (level : List RowExpr) (further : List (List RowExpr))
-    → SmallOrders vars more level further → AreOrders vars more level further
-orders_made vars more level [] h = tt
-orders_made vars more level (rows ∷ further) h =
-    (h.0, made_small vars (level ++ rows) h.1, orders_made vars (more + 2) level further h.2)
-
-orders_behind : (vars more : ℕ) (level equal : List RowExpr) (further : List (List RowExpr))
-    → SmallOrders vars more (level ++ equal) further → SmallOrders vars more level (map (λ rows. equal ++ rows) further)
-orders_behind vars more level equal [] h = tt
-orders_behind vars more level equal (rows ∷ further) h =
-    let same : (level ++ equal) ++ rows ≡ level ++ (equal ++ rows) = append_assoc level equal rows in
-    (ap length (sym same) ∙ h.0, subst (AreSmall vars) same h.1, orders_behind vars (more + 2) level equal further h.2)
-
-pub orders_small : (vars more c : ℕ) (level : List RowExpr) (a b : List Form) → more ≡ length level + 1
-    → AreSmall vars level → AreTaken vars a → AreTaken vars b → SmallOrders vars more level (order_rows c false a b)
-orders_small vars more zero level a b count small s t = tt
-orders_small vars more (suc c) level [] b count small s t = tt
-orders_small vars more (suc c) level (v ∷ a) [] count small s t = tt
-orders_small vars more (suc c) level (v ∷ a) (x ∷ b) count small s t =
-    let strict : List RowExpr = one_less (minus (Take x) (Take v)) ∷ [] in
-    let equal : List RowExpr = equal_rows (Take v) (Take x) in (
-      omega (arith, length-append level strict, count),
-      small_append vars level strict small (small_less vars v x s.0 t.0),
-      orders_behind vars (more + 2) level equal (order_rows c false a b)
-          (orders_small vars (more + 2) c (level ++ equal) a b (omega (arith, length-append level equal, count))
-          (small_append vars level equal small (small_equal vars v x s.0 t.0)) s.1 t.1),
-    )
-
-pub order_count : (c : ℕ) (a b : List Form) → c ≤ length a → c ≤ length b → length (order_rows c false a b) ≡ c
-order_count zero a b h k = refl
-order_count (suc c) [] b h k = absurd (omega arith)
-order_count (suc c) (v ∷ a) [] h k = absurd (omega arith)
-order_count (suc c) (v ∷ a) (x ∷ b) h k =
-    ap suc (length-map (order_rows c false a b) (λ rows. equal_rows (Take v) (Take x) ++ rows)
-    ∙ order_count c a b (omega (arith, h)) (omega (arith, k)))
-
--- Lists of proofs
-
--- light Sums are Cuts and a Sum, without a Cut
-pub sums_are_cuts : (order : ℕ) (systems : List RowSystem) (proofs : List Proof) → AreRefuted systems proofs
-    → All IsLightSum proofs → AreCutSums order systems proofs
-sums_are_cuts order [] [] h light = tt
-sums_are_cuts order [] (proof ∷ proofs) h light = absurd h
-sums_are_cuts order (system ∷ systems) [] h light = absurd h
-sums_are_cuts order (system ∷ systems) (proof ∷ proofs) h light =
-    let l : IsLightSum proof = All-head IsLightSum proof proofs light in (
-      record {
-        rows = h.0.rows;
-        are_made = h.0.are_made;
-        is_cut_sum = record {
-          cuts = [];
-          added = [];
-          terms = l.0;
-          is = l.1;
-          few = omega arith;
-          add = tt;
-          no_order = All-nil _;
-          small = All-nil _;
-          light = l.2;
-        };
-      },
-      sums_are_cuts order systems proofs h.1 (All-tail IsLightSum proof proofs light),
-    )
-
--- the systems of a point, those of its domain and cell apart
-pub head_apart : (a b d e : List RowSystem) → (a ++ (b ++ d)) ++ e ≡ (a ++ b) ++ (d ++ e)
-head_apart a b d e =
-    append_assoc a (b ++ d) e ∙ ap (λ xs. a ++ xs) (append_assoc b d e) ∙ sym (append_assoc a b (d ++ e))
-
--- proofs in two parts, as their systems
-pub refuted_parts : (first second : List RowSystem) (ps qs : List Proof) → length ps ≡ length first
-    → AreRefuted (first ++ second) (ps ++ qs) → AreRefuted first ps × AreRefuted second qs
-refuted_parts [] second [] qs e h = (tt, h)
-refuted_parts [] second (p ∷ ps) qs e h = absurd (omega arith)
-refuted_parts (x ∷ first) second [] qs e h = absurd (omega arith)
-refuted_parts (x ∷ first) second (p ∷ ps) qs e h =
-    let rest = refuted_parts first second ps qs (omega (arith, e)) h.1 in ((h.0, rest.0), rest.1)
-
-pub all_parts : (P : Proof → Type 0) (ps qs : List Proof) → All P (ps ++ qs) → All P ps × All P qs
-all_parts P [] qs h = (All-nil P, h)
-all_parts P (p ∷ ps) qs h =
-    let rest = all_parts P ps qs (All-tail P p (ps ++ qs) h) in
-    (All-cons P p ps (All-head P p (ps ++ qs) h) rest.0, rest.1)
-
-length-differ_rows : (writes reads place : List Form) → length writes ≡ length reads
-    → length (differ_rows writes reads place) ≡ 2 * length writes
-length-differ_rows [] reads place e = refl
-length-differ_rows (write ∷ writes) [] place e = absurd (omega arith)
-length-differ_rows (write ∷ writes) (read ∷ reads) place e = omega (arith, length-differ_rows writes reads place (omega (arith, e)))
-
-place_taken : (c : Context) (vars : ℕ) (place : List Form) → c.vars ≤ vars → HaveVariables c.vars place
-    → All (IsWithin (2 ^ 40)) place → AreTaken vars place
-place_taken c vars [] le over within = tt
-place_taken c vars (f ∷ place) le over within =
-    let long : length f.coefs ≡ c.vars = All-head (λ (f : Form). length f.coefs ≡ c.vars) f place over in (
-      record {
-        short = omega (arith, long, le);
-        within = IsWithin-weaker (2 ^ 40) (2 ^ 41) f (omega arith) (All-head (IsWithin (2 ^ 40)) f place within);
-      },
-      place_taken c vars place le (All-tail (λ (f : Form). length f.coefs ≡ c.vars) f place over)
-          (All-tail (IsWithin (2 ^ 40)) f place within),
-    )
-
--- Leaves
-
--- how many proofs tell that a place is in the domain and writes the read's cell
-pub place_count : (s : Strides) → IsStrided s → (places : List ℕ) (c : Context) (place : List Form)
-    → length (outside_cell_systems (told_read c.vars places (read_of s) (write_of s)) (told_write (write_of s)) c place)
-    ≡ length s.write.statement.now.rows + 2 * length s.write.access.now.subscripts
-place_count s strided places c place =
-    let r : Occurrence = read_of s in
-    let w : Occurrence = write_of s in
-    let r' : Occurrence = told_read c.vars places r w in
-    let w' : Occurrence = told_write w in
-    let fits : AreFitting s.nest.now r w s.level = are_fitting s.nest.now r w s.level strided.strided in
+pub below_vars : (w : Answered) (here : ℕ) (c : Context) → IsBelow w here c
+    → c.vars ≡ length w.read.statement.now.loops + length w.tests.now
+below_vars w here c h =
     omega (
       arith,
-      length-append (outside_systems c w' place) (cell_systems r' c w' place),
-      length-map w'.statement.rows (λ row. with_rows c (below_zero (at_place row place) ∷ [])),
-      length-map w.statement.rows divided_form,
-      length-map (differ_rows w'.access.subscripts r'.access.subscripts place) (λ row. with_rows c (row ∷ [])),
-      length-differ_rows w'.access.subscripts r'.access.subscripts place
-          (length-map w.access.subscripts problem_write
-          ∙ reads_count c.vars (length r.statement.loops) places w.access.subscripts r.access.subscripts fits.even),
-      length-map w.access.subscripts problem_write,
+      ap (λ (c : Context). c.vars) h.is,
+      vars_are (root_context (occurrence_of w.read)) w.tests.now w.answers.now (omega (arith, h.all)),
+      h.all,
     )
 
-module _ (s : Strides) (strided : IsStrided s) (places : List ℕ) (here : ℕ) where
-  abbrev r : Occurrence
-  r = read_of s
+module _ (w : Answered) (here : ℕ) (c : Context) (x : Writer) (below : IsBelow w here c)
+    (of : IsWriterOf w.nest.now (occurrence_of w.read) w.tests.now x) where
+  own_answers : HasAnswers c (depth_of_read x.strides) (root_of x.strides) w.tests.now w.answers.now
+  own_answers = subst (λ (r : Occurrence). HasAnswers c (length r.statement.loops) (length r.statement.rows) w.tests.now
+      w.answers.now) (sym of.read) (below_answers w here c below)
 
-  abbrev w : Occurrence
-  w = write_of s
+  pub reader_inside : depth_of_read x.strides ≤ c.vars
+  reader_inside = omega (
+    arith,
+    ap (λ (r : Occurrence). length r.statement.loops) of.read,
+    below_vars w here c below,
+  )
 
-  abbrev p : ℕ
-  p = s.level
+  pub tested : IsAnswered w → is_told w.answers.now x ≡ true → IsTestedContext x.strides x.places here c
+  tested h says =
+      let asked : is_never x ≡ false =
+      told_asked w.answers.now x (omega (arith, h.answers, h.few)) says in
+      record {
+        small = below.small;
+        reader = reader_inside;
+        tests = tests_in c (depth_of_read x.strides) (root_of x.strides) w.tests.now w.answers.now own_answers 0 x.places
+            (write_of x.strides).access.subscripts (read_of x.strides).access.subscripts
+            (subst (λ ds. AllZip (IsTestAt w.tests.now) ds x.places) of.divisions
+            (tests_asked w.tests.now x.divisions x.places asked of.places)) says;
+      }
 
-  abbrev loops : ℕ
-  loops = depth_of_write s
+  undivided : (refusal : Refusal) → IsRefusalAmong w.answers.now x.divisions x.places refusal
+      → refusal.place < no_place → IsUndividedContext x.strides refusal.division.now refusal.place here c
+  undivided refusal h inside =
+      let at : IsTestAt w.tests.now refusal.division.now refusal.place =
+      asked_at w.tests.now refusal.division.now refusal.place
+      (ne_eqb refusal.place no_place (λ same. omega (arith, same, inside)))
+      (zip_at (IsPlaceOf w.tests.now) x.divisions x.places h.number refusal.division.now refusal.place of.places
+      h.division h.place) in
+      let no : IsNoTestIn c (depth_of_read x.strides) (root_of x.strides) refusal.division.now refusal.place
+      = no_test_in c (depth_of_read x.strides) (root_of x.strides) w.tests.now w.answers.now own_answers
+      refusal.division.now refusal.place below.all at h.no in
+      record { small = below.small; inside = no.inside; first = no.first; second = no.second }
 
-  abbrev cells : ℕ
-  cells = length s.write.statement.now.rows + 2 * length s.write.access.now.subscripts
+  pub refused_here : (refusal : Refusal) → IsRefusalAmong w.answers.now x.divisions x.places refusal
+      → IsRefusedContext x.strides refusal here c
+  refused_here refusal h =
+      record { small = below.small; reader = reader_inside; asked = undivided refusal h }
 
-  -- proofs of systems of a write were added
-  abbrev pub Between : ℕ → List Proof → List Proof → List Proof → Type 0
-  Between more told old new =
-      (c : Context) (level : List RowExpr) (further : List (List RowExpr)) → IsTestedContext s places here c
-      → AreOrders (c.vars + depth_of_write s) more level further
-      → AddsConverted (order_number r w c) (Unit {0})
-      (map (λ rows. told_system s places c (level ++ rows)) further)
-      (map (λ rows. own_system s c (level ++ rows)) further) told old new
+places_inside : (tests ds : List Division) (places : List ℕ) → length tests ≤ 6 → AllZip (IsTestAt tests) ds places
+    → All (λ place. place < 6) places
+places_inside tests [] [] few h = All-nil _
+places_inside tests [] (place ∷ places) few h = absurd h
+places_inside tests (d ∷ ds) [] few h = absurd h
+places_inside tests (d ∷ ds) (place ∷ places) few h =
+    All-cons (λ place. place < 6) place places
+    (omega (arith, slice_get_within tests place h.0.test h.0.is, few)) (places_inside tests ds places few h.1)
 
-  module _ (c : Context) (at : IsTestedContext s places here c) where
-    abbrev r' : Occurrence
-    r' = told_read c.vars places r w
+pub told_places : (w : Answered) (x : Writer) → IsAnswered w
+    → IsWriterOf w.nest.now (occurrence_of w.read) w.tests.now x → is_told w.answers.now x ≡ true
+    → All (λ place. place < 6) x.places
+told_places w x h of says =
+    places_inside w.tests.now x.divisions x.places h.few
+    (tests_asked w.tests.now x.divisions x.places (told_asked w.answers.now x (omega (arith, h.answers, h.few)) says) of.places)
 
-    abbrev w' : Occurrence
-    w' = told_write w
+pub is_refusal : (w : Answered) (x : Writer) (refusal : Refusal) → IsAnswered w
+    → IsWriterOf w.nest.now (occurrence_of w.read) w.tests.now x
+    → IsRefusalAmong w.answers.now x.divisions x.places refusal → IsRefusal x.strides refusal
+is_refusal w x refusal h of among = record {
+  test = All-slice_get (IsTestOf x.strides) (tests_of x.strides) among.number refusal.division.now (tests_are x.strides)
+      (ap (λ ds. slice_get ds among.number) (sym of.divisions) ∙ among.division);
+  never = λ le. unasked_never (zip_at (IsPlaceOf w.tests.now) x.divisions x.places among.number refusal.division.now
+      refusal.place of.places among.division among.place) le;
+} where
+  unasked_never : IsPlaceOf w.tests.now refusal.division.now refusal.place → no_place ≤ refusal.place
+      → never_divides refusal.division.now ≡ true
+  unasked_never (asked at) le =
+      absurd (omega (arith, slice_get_within w.tests.now refusal.place at.test at.is, h.few, le))
+  unasked_never (unasked never same) le = never
 
-    abbrev vars : ℕ
-    vars = c.vars + loops
+-- Order rows
 
-    abbrev level : IsSmallLevel vars (order_rows (common_of w r) (nat_lt w.number r.number) (writer_place c w) (reader_place r)) p
-    level = of_level.level s strided c at.reader
+variables_near : (vars k d : ℕ) → k + d ≤ vars → AreNear vars (variables k d)
+variables_near vars k zero le = tt
+variables_near vars k (suc d) le = (
+  record {
+    short = omega (arith, variable_over (k + 1) k (omega arith), le);
+    within = IsWithin-weaker 1 (2 ^ 48) _ (omega arith) (variable_within (k + 1) k);
+  },
+  variables_near vars (k + 1) d (omega (arith, le)),
+)
 
-    level_long : length level.rows ≡ 2 * s.level + cond (nat_lt s.level s.common) 1 0
-    level_long = of_level.level_long s strided c at.reader
+place_near : (vars more : ℕ) (place : List Form) → HaveVariables vars place → All (IsWithin (2 ^ 48)) place
+    → AreNear (vars + more) place
+place_near vars more [] over within = tt
+place_near vars more (f ∷ place) over within = (
+  record {
+    short = omega (arith, All-head (λ (f : Form). length f.coefs ≡ vars) f place over);
+    within = All-head (IsWithin (2 ^ 48)) f place within;
+  },
+  place_near vars more place (All-tail (λ (f : Form). length f.coefs ≡ vars) f place over)
+      (All-tail (IsWithin (2 ^ 48)) f place within),
+)
 
-    -- a Zero leaf has one proof
-    told_one : (told : List Proof) → AreRefuted (none_systems r' w' p c) told
-        → AreRefuted (told_system s places c (level.rows ++ []) ∷ []) told
-    told_one told = subst (λ systems. AreRefuted systems told) (none_system r' w' p c level.rows level.is)
+counted_rows : (vars : ℕ) (counts : List ℕ) (orders : List (List RowExpr)) → map length orders ≡ counts
+    → All (AreMadeSmall vars) orders → HaveOrderRows vars counts orders
+counted_rows vars counts orders e made = subst (λ ns. HaveOrderRows vars ns orders) e (go orders made) where
+  go : (orders : List (List RowExpr)) → All (AreMadeSmall vars) orders → HaveOrderRows vars (map length orders) orders
+  go [] made = tt
+  go (rows ∷ orders) made =
+      ((refl, All-head (AreMadeSmall vars) rows orders made), go orders (All-tail (AreMadeSmall vars) rows orders made))
 
-    pub zero_one : (told : List Proof) → AreRefuted (none_systems r' w' p c) told → length told ≤ 1
-    zero_one told h =
-        omega (arith, length-AreRefuted (told_system s places c (level.rows ++ []) ∷ []) told (told_one told h))
+few_before : (w u : Occurrence) → length w.statement.loops ≤ 6 → levels_before w u ≤ 7
+few_before w u few = go (nat_lt w.number u.number) where
+  go : (b : Bool) → common_of w u + cond b 1 0 ≤ 7
+  go true = omega (arith, common_first w.statement.loops u.statement.loops, few)
+  go false = omega (arith, common_first w.statement.loops u.statement.loops, few)
 
-    module _ (more : ℕ) (told new : List Proof) (count : more ≡ 2 * s.level + cond (nat_lt s.level s.common) 1 0)
-        (h : Between more told [] new) where
-      one_order : AreOrders vars more level.rows ([] ∷ [])
-      one_order =
-          let whole : length (level.rows ++ []) ≡ more =
-          omega (arith, length-append level.rows [], level_long, count) in
-          orders_made vars more level.rows ([] ∷ []) (whole, of_level.only_small s strided c at.reader, tt)
+pub few_counts : (u w : Occurrence) → length u.statement.loops ≤ 6 → All (λ k. k ≤ 32) (order_counts u w)
+few_counts u w few = counts_few (common_of u w) (levels_before u w) 0 (omega (arith, few_before u w few))
 
-      zero_added : AddsConverted (order_number r w c) (Unit {0})
-          (told_system s places c (level.rows ++ []) ∷ []) (own_system s c (level.rows ++ []) ∷ []) told [] new
-      zero_added = h c level.rows ([] ∷ []) at one_order
+pub few_after : (r u : Occurrence) → length r.statement.loops ≤ 6 → All (λ k. k ≤ 32) (after_counts r u)
+few_after r u few =
+    All-append (λ k. k ≤ 32) (order_counts r u) (cond (u.number == r.number) ((2 * length r.statement.loops) ∷ []) [])
+    (few_counts r u few) (go (u.number == r.number)) where
+      go : (b : Bool) → All (λ k. k ≤ 32) (cond b ((2 * length r.statement.loops) ∷ []) [])
+      go true = All-cons (λ k. k ≤ 32) (2 * length r.statement.loops) [] (omega (arith, few)) (All-nil _)
+      go false = All-nil _
 
-      pub zero_refuted : AreRefuted (none_systems r' w' p c) told → AreRefuted (none_systems r w p c) new
-      zero_refuted refuted =
-          subst (λ systems. AreRefuted systems new) (sym (none_system r w p c level.rows level.is))
-          (subst (AreRefuted (own_system s c (level.rows ++ []) ∷ [])) (sym zero_added.is)
-          (zero_added.refuted (told_one told refuted)))
+-- the levels of a writer before the read
+level_rows : (s : Strides) (c : Context) → depth_of_read s ≤ c.vars
+    → HaveOrderRows (c.vars + depth_of_write s) (order_counts (write_of s) (read_of s))
+    (before_rows (write_of s).number (write_of s).statement (writer_place c (write_of s)) (read_of s).number
+    (read_of s).statement (reader_place (read_of s)))
+level_rows s c le =
+    let u : Occurrence = write_of s in
+    let r : Occurrence = read_of s in
+    counted_rows (c.vars + depth_of_write s) (order_counts u r)
+    (before_rows u.number u.statement (writer_place c u) r.number r.statement (reader_place r))
+    (order_lengths (common_of u r) (nat_lt u.number r.number) (writer_place c u) (reader_place r)
+    (omega (
+      arith,
+      length_variables c.vars (length u.statement.loops),
+      common_first u.statement.loops r.statement.loops,
+    ))
+    (omega (arith, length_variables 0 (length r.statement.loops), common_second u.statement.loops r.statement.loops)))
+    (orders_made (c.vars + depth_of_write s) (common_of u r) (nat_lt u.number r.number) (writer_place c u) (reader_place r)
+    (variables_near (c.vars + depth_of_write s) c.vars (length u.statement.loops) (omega arith))
+    (variables_near (c.vars + depth_of_write s) 0 (length r.statement.loops) (omega (arith, le))))
 
-      pub zero_cuts : AreRefuted (none_systems r' w' p c) told → All IsLightSum told → AreNoneCutSums r w p c new
-      zero_cuts refuted light =
-          subst (λ systems. AreCutSums (order_number r w c) systems new)
-          (sym (none_system r w p c level.rows level.is))
-          (subst (AreCutSums (order_number r w c) (own_system s c (level.rows ++ []) ∷ [])) (sym zero_added.is)
-          (zero_added.cuts tt (told_one told refuted) light))
+-- what stands behind them
+pub further_rows : (s : Strides) (c : Context) (behind : Option Reference)
+    (further : Occurrence → List (List RowExpr)) → IsFurther behind c further
+    → HaveOrderRows (c.vars + depth_of_write s) (counts_behind behind (write_of s)) (further (write_of s))
+further_rows s c None further h =
+    subst (HaveOrderRows (c.vars + depth_of_write s) (0 ∷ [])) (sym (h (write_of s)))
+    ((refl, record { forms = []; are_made = refl; within = All-nil _ }), tt)
+further_rows s c (Some of) further (place, in_context, is) =
+    let u : Occurrence = write_of s in
+    let v : Occurrence = occurrence_of of in
+    subst (HaveOrderRows (c.vars + depth_of_write s) (order_counts v u)) (sym (is u))
+    (counted_rows (c.vars + depth_of_write s) (order_counts v u)
+    (before_rows v.number v.statement place u.number u.statement (writer_place c u))
+    (order_lengths (common_of v u) (nat_lt v.number u.number) place (writer_place c u)
+    (omega (arith, in_context.deep, common_first v.statement.loops u.statement.loops))
+    (omega (
+      arith,
+      length_variables c.vars (length u.statement.loops),
+      common_second v.statement.loops u.statement.loops,
+    )))
+    (orders_made (c.vars + depth_of_write s) (common_of v u) (nat_lt v.number u.number) place (writer_place c u)
+    (place_near c.vars (depth_of_write s) place in_context.over in_context.within)
+    (variables_near (c.vars + depth_of_write s) c.vars (length u.statement.loops) (omega arith))))
 
-    -- a Writer leaf
-    module _ (place : List Form) (deep : length place ≡ loops) where
-      abbrev further : List (List RowExpr)
-      further = before_rows w.number w.statement place w.number w.statement (writer_place c w)
+-- a write over quotients has the same rows behind it
+pub same_further : (behind : Option Reference) (c : Context) (further : Occurrence → List (List RowExpr))
+    (u : Occurrence) → IsFurther behind c further → further (told_write u) ≡ further u
+same_further None c further u h = h (told_write u) ∙ sym (h u)
+same_further (Some of) c further u (place, in_context, is) = is (told_write u) ∙ sym (is u)
 
-      further_is : further ≡ order_rows loops false place (writer_place c w)
-      further_is = ap (λ n. order_rows n (nat_lt w.number w.number) place (writer_place c w))
-          (common_loops-same w.statement.loops)
-          ∙ ap (λ less. order_rows loops less place (writer_place c w)) (ltb-same w.number)
+-- a test that says no is one of those that say whether the writer is told
+pub refused : (answers : List Bool) (x : Writer) (refusal : Refusal)
+    → IsRefusalAmong answers x.divisions x.places refusal → is_told answers x ≡ false
+refused answers x refusal h = one_no x.places h.number refusal.place h.place h.no where
+  and_no : (b : Bool) → (b && false) ≡ false
+  and_no true = refl
+  and_no false = refl
 
-      further_count : length further ≡ loops
-      further_count = ap length further_is
-          ∙ order_count loops place (writer_place c w) (omega (arith, deep)) (omega (arith, length_variables c.vars loops))
+  one_no : (places : List ℕ) (k place : ℕ) → slice_get places k ≡ Some place → answer_at answers place ≡ false
+      → list_all (answer_at answers) places ≡ false
+  one_no [] k place e denies = absurd (let none : None ≡ Some place = e in cc)
+  one_no (p ∷ places) zero place e denies =
+      ap (λ b. b && list_all (answer_at answers) places) (ap (answer_at answers) (same_Some p place e) ∙ denies)
+  one_no (p ∷ places) (suc k) place e denies =
+      ap (λ b. answer_at answers p && b) (one_no places k place e denies) ∙ and_no (answer_at answers p)
 
-      abbrev later' : List RowSystem
-      later' = map (λ rows. told_system s places c (level.rows ++ rows)) further
+-- Systems of one writer
 
-      later_is' : later_systems r' w' p c place ≡ later'
-      later_is' = later_system r' w' p c level.rows place level.is
+each_order : (f : List RowExpr → List RowSystem) (g : List RowExpr → RowSystem)
+    → ((rows : List RowExpr) → f rows ≡ g rows ∷ []) → (orders : List (List RowExpr)) → flat_map f orders ≡ map g orders
+each_order f g is [] = refl
+each_order f g is (rows ∷ orders) =
+    ap (λ systems. systems ++ flat_map f orders) (is rows) ∙ ap (λ systems. g rows ∷ systems) (each_order f g is orders)
 
-      later_is : later_systems r w p c place ≡ map (λ rows. own_system s c (level.rows ++ rows)) further
-      later_is = later_system r w p c level.rows place level.is
+no_order : (f : List RowExpr → List RowSystem) → ((rows : List RowExpr) → f rows ≡ []) → (orders : List (List RowExpr))
+    → flat_map f orders ≡ []
+no_order f is [] = refl
+no_order f is (rows ∷ orders) = ap (λ systems. systems ++ flat_map f orders) (is rows) ∙ no_order f is orders
 
-      later_count : length (later_systems r' w' p c place) ≡ loops
-      later_count = ap length later_is' ∙ length-map further (λ rows. told_system s places c (level.rows ++ rows))
-          ∙ further_count
+level_by_level : (g : List RowExpr → RowSystem) (behind at : List (List RowExpr))
+    → map g (all_orders behind at) ≡ flat_map (λ level. map (λ rows. g (level ++ rows)) behind) at
+level_by_level g behind [] = refl
+level_by_level g behind (level ∷ at) =
+    map-append g (map (λ rows. level ++ rows) behind) (all_orders behind at)
+    ∙ ap (λ systems. systems ++ map g (all_orders behind at)) (map-map g (λ rows. level ++ rows) behind)
+    ∙ ap (λ systems. map (λ rows. g (level ++ rows)) behind ++ systems) (level_by_level g behind at)
 
-      pub told_count : (told : List Proof) → AreRefuted (point_systems r' w' p c place) told
-          → length told ≡ cells + (length (after_systems r c w place) + loops)
-      told_count told h = omega (
-        arith,
-        length-AreRefuted (point_systems r' w' p c place) told h,
-        length-append (head_systems (read_and_write r' w') place c) (later_systems r' w' p c place),
-        length-append (outside_systems c w' place) (cell_systems r' c w' place ++ after_systems r' c w' place),
-        length-append (cell_systems r' c w' place) (after_systems r' c w' place),
-        length-append (outside_systems c w' place) (cell_systems r' c w' place),
-        place_count s strided places c place,
-        later_count,
-      )
+-- the order rows of its levels before the read, for which the tree is
+abbrev pub levels_of : Answered → Writer → Context → List (List RowExpr)
+levels_of w x c = chosen_levels (which_of w) (write_of x.strides).number
+    (before_rows (write_of x.strides).number (write_of x.strides).statement
+    (writer_place c (write_of x.strides)) (read_of x.strides).number (read_of x.strides).statement
+    (reader_place (read_of x.strides)))
 
-      -- the proofs fall into those of the three kinds
-      kinds : (first middle last : List Proof) → length first ≡ cells → length last ≡ loops
-          → AreRefuted (point_systems r' w' p c place) (first ++ (middle ++ last))
-          → AreRefuted (outside_cell_systems r' w' c place) first × AreRefuted (after_systems r c w place) middle
-          × AreRefuted later' last
-      kinds first middle last a b h =
-          let after : List RowSystem = after_systems r c w place in
-          let later : List RowSystem = later_systems r' w' p c place in
-          let whole : AreRefuted (outside_cell_systems r' w' c place ++ (after ++ later)) (first ++ (middle ++ last))
-          = subst (λ systems. AreRefuted systems (first ++ (middle ++ last)))
-          (head_apart (outside_systems c w' place) (cell_systems r' c w' place) after later) h in
-          let x = refuted_parts (outside_cell_systems r' w' c place) (after ++ later) first (middle ++ last)
-          (a ∙ sym (place_count s strided places c place)) whole in
-          let count : length middle ≡ length after = omega (
-            arith,
-            told_count (first ++ (middle ++ last)) h,
-            length-append first (middle ++ last),
-            length-append middle last,
-            a,
-            b,
-          ) in
-          let y = refuted_parts after later middle last count x.1 in
-          (x.0, y.0, subst (λ systems. AreRefuted systems last) later_is' y.1)
+module _ (w : Answered) (rest : List RowExpr) (behind : Option Reference) (further : Occurrence → List (List RowExpr))
+    (x : Writer) (h : IsFurther behind (fact_context w rest) further) where
+  abbrev c : Context
+  c = fact_context w rest
 
-      module _ (over : HaveVariables c.vars place) (within : All (IsWithin (2 ^ 40)) place) (more : ℕ)
-          (count : more ≡ 2 * s.level + cond (nat_lt s.level s.common) 1 0 + 1)
-          (first middle last proofs new : List Proof) (first_is : length first ≡ cells) (last_is : length last ≡ loops)
-          (h : Between more last (proofs ++ middle) new) where
-        orders : AreOrders vars more level.rows further
-        orders = subst (AreOrders vars more level.rows) (sym further_is)
-            (orders_made vars more level.rows (order_rows loops false place (writer_place c w))
-            (orders_small vars more loops level.rows place (writer_place c w) (omega (arith, count, level_long)) level.small
-            (place_taken c vars place (omega arith) over within) (of_level.own_taken s strided c at.reader)))
+  abbrev u : Occurrence
+  u = write_of x.strides
 
-        added : AddsConverted (order_number r w c) (Unit {0}) later'
-            (map (λ rows. own_system s c (level.rows ++ rows)) further) last (proofs ++ middle) new
-        added = h c level.rows further at orders
+  abbrev orders : List (List RowExpr)
+  orders = all_orders (further u) (levels_of w x c)
 
-        new_is : new ≡ proofs ++ (middle ++ added.added)
-        new_is = added.is ∙ append_assoc proofs middle added.added
+  abbrev of_told : List (List RowExpr) → List RowSystem
+  of_told others =
+      flat_map (λ (level : List RowExpr). map (λ (rows : List RowExpr). told_system x.strides x.places c (level ++ rows)) others)
+      (levels_of w x c)
 
-        pub writer_refuted : (AreRefuted (outside_cell_systems r' w' c place) first
-            → AreRefuted (outside_cell_systems r w c place) proofs)
-            → AreRefuted (point_systems r' w' p c place) (first ++ (middle ++ last))
-            → AreRefuted (point_systems r w p c place) new
-        writer_refuted of_place refuted =
-            let k = kinds first middle last first_is last_is refuted in
-            let after : List RowSystem = after_systems r c w place in
-            let later : List RowSystem = later_systems r w p c place in
-            let of_later : AreRefuted later added.added =
-            subst (λ systems. AreRefuted systems added.added) (sym later_is) (added.refuted k.2) in
-            subst (λ systems. AreRefuted systems new)
-            (sym (head_apart (outside_systems c w place) (cell_systems r c w place) after later))
-            (subst (AreRefuted (outside_cell_systems r w c place ++ (after ++ later))) (sym new_is)
-            (AreRefuted-append (outside_cell_systems r w c place) (after ++ later) proofs (middle ++ added.added) (of_place k.0)
-            (AreRefuted-append after later middle added.added k.1 of_later)))
+  told_are : (b : Bool) → cond b (of_told (further (told_write u))) []
+      ≡ flat_map (λ (rows : List RowExpr). cond b (told_system x.strides x.places c rows ∷ []) []) orders
+  told_are true =
+      ap of_told (same_further behind c further u h)
+      ∙ sym (level_by_level (told_system x.strides x.places c) (further u) (levels_of w x c))
+      ∙ sym (each_order (λ (rows : List RowExpr). told_system x.strides x.places c rows ∷ [])
+      (told_system x.strides x.places c) (λ rows. refl) orders)
+  told_are false = sym (no_order (λ (rows : List RowExpr). []) (λ rows. refl) orders)
 
-        pub writer_cuts : (AreRefuted (outside_cell_systems r' w' c place) first → All IsLightSum first
-            → AreCutSums (here + 1) (outside_cell_systems r w c place) proofs)
-            → AreRefuted (point_systems r' w' p c place) (first ++ (middle ++ last))
-            → All IsLightSum (first ++ (middle ++ last)) → AreWriterCutSums r w p c place new
-        writer_cuts of_place refuted light =
-            let k = kinds first middle last first_is last_is refuted in
-            let l = all_parts IsLightSum first (middle ++ last) light in
-            let m = all_parts IsLightSum middle last l.1 in
-            let rows_count : length c.rows ≡ here =
-            sym (forms_count c.vars c.rows at.small.rows at.small.made) ∙ at.small.count in
-            record {
-              of_place = proofs;
-              after = middle;
-              later = added.added;
-              are = new_is;
-              place_cuts = subst (λ n. AreCutSums (n + 1) (outside_cell_systems r w c place) proofs) (sym rows_count)
-                  (of_place k.0 l.0);
-              after_cuts = sums_are_cuts (length c.rows) (after_systems r c w place) middle k.1 m.0;
-              later_cuts = subst (λ systems. AreCutSums (order_number r w c) systems added.added) (sym later_is)
-                  (added.cuts tt k.2 m.1);
-            }
+  -- what is added for all orders is added for the writer
+  pub writer_added : (told left old new : List Proof) → AddsOrderProofs w rest x orders told left old new
+      → AddsProofs w (own_order_number w rest x) (told_systems (which_of w) w.answers.now c further x)
+      (own_systems (which_of w) (own_context w rest) further x) told left old new
+  writer_added told left old new added =
+      subst (λ from. AddsProofs w (own_order_number w rest x) from (own_systems (which_of w) (own_context w rest) further x)
+      told left old new)
+      (sym (told_are (is_told w.answers.now x)))
+      (subst (λ to. AddsProofs w (own_order_number w rest x) (flat_map (told_order_systems w rest x) orders) to told left old
+      new)
+      (level_by_level (own_order_system w rest x) (further u) (levels_of w x c)) added)
 
--- Trees
+-- how many order rows there are
+pub few_behind : (behind : Option Reference) (u : Occurrence)
+    → IfSome behind (λ of. length of.statement.now.loops ≤ 6) → All (λ k. k ≤ 32) (counts_behind behind u)
+few_behind None u few = All-cons (λ k. k ≤ 32) 0 [] (omega arith) (All-nil _)
+few_behind (Some of) u few = few_counts (occurrence_of of) u few
 
--- a tree that is checked over quotients
-abbrev pub IsToldIn : Strides → List ℕ → ℕ → Context → Tree → Type 0
-IsToldIn s places vars = IsCheckedFor (told_read vars places (read_of s) (write_of s)) (told_write (write_of s)) s.level
+-- of what is counted, and of the orders, those that are chosen
+chosen_rows : (vars : ℕ) (which : Which) (u : ℕ) (counts : List ℕ) (orders : List (List RowExpr))
+    → HaveOrderRows vars counts orders
+    → HaveOrderRows vars (chosen_levels which u counts) (chosen_levels which u orders)
+chosen_rows vars every u counts orders h = h
+chosen_rows vars (just n p) u counts orders h = go (u == n) where
+  first : (counts : List ℕ) (orders : List (List RowExpr)) → HaveOrderRows vars counts orders
+      → HaveOrderRows vars (take 1 counts) (take 1 orders)
+  first [] [] h = tt
+  first [] (rows ∷ orders) h = absurd h
+  first (k ∷ counts) [] h = absurd h
+  first (k ∷ counts) (rows ∷ orders) h = (h.0, tt)
 
--- a Test
-pub test_converted : (s : Strides) (places : List ℕ) (here : ℕ) (form : Form) (upper lower above below own : Tree)
-    → IsConvertedTree s places (here + 1) upper above → IsConvertedTree s places (here + 1) lower below
-    → own ≡ Test form above below → IsConvertedTree s places here (Test form upper lower) own
-test_converted s places here form upper lower above below own a b is =
-    record {
-      checked = λ c tests t h simple.
-          (let k : AreBothChecked (IsToldIn s places c.vars) c form upper lower =
-          checked_test c (Test form upper lower) form upper lower h refl in
-          let l : AreBothSimple tests form upper lower = simple_both tests (Test form upper lower) form upper lower simple refl in
-          let yes = a.checked (test_yes c form) l.fewer (tested_yes s places here c form t k.over k.within) k.above
-          l.above in
-          let no = b.checked (test_no c form) l.fewer (tested_no s places here c form t k.over k.within) k.below
-          l.below in (
-            test_in c own form above below is k.over yes.0 no.0,
-            subst (λ n. IsCutTree (read_of s) (write_of s) s.level n c own) (sym l.less)
-                (cut_test l.fewer c own form above below is l.within yes.1 no.1),
-          ));
-      same = λ x. gives-Test x own form above below is
-          ∙ ap (λ f. cond (int_le (pos 0) (form_at form x)) f (gives below x)) (a.same x)
-          ∙ ap (λ f. cond (int_le (pos 0) (form_at form x)) (gives upper x) f) (b.same x)
-          ∙ sym (gives-Test x (Test form upper lower) form upper lower refl);
-    }
+  at : (p : ℕ) (counts : List ℕ) (orders : List (List RowExpr)) → HaveOrderRows vars counts orders
+      → HaveOrderRows vars (take 1 (drop p counts)) (take 1 (drop p orders))
+  at zero counts orders h = first counts orders h
+  at (suc p) [] [] h = tt
+  at (suc p) [] (rows ∷ orders) h = absurd h
+  at (suc p) (k ∷ counts) [] h = absurd h
+  at (suc p) (k ∷ counts) (rows ∷ orders) h = at p counts orders h.1
 
--- the branches of a Test that are made
-pub record AreBranches (s : Strides) (places : List ℕ) (here : ℕ) (upper lower : Tree) : Type 0 where
-  pub first : Context
-  pub second : Context
-  pub first_at : IsTestedContext s places (here + 1) first
-  pub second_at : IsTestedContext s places (here + 1) second
-  pub first_checked : IsToldIn s places first.vars first upper
-  pub second_checked : IsToldIn s places second.vars second lower
-  pub fewer : ℕ
-  pub few : here + 1 + fewer ≤ 8192
-  pub first_simple : IsSimple fewer upper
-  pub second_simple : IsSimple fewer lower
+  go : (b : Bool) → HaveOrderRows vars (cond b (take 1 (drop p counts)) []) (cond b (take 1 (drop p orders)) [])
+  go true = at p counts orders h
+  go false = tt
 
-pub branches_made : (s : Strides) (places : List ℕ) (here : ℕ) (c : Context) (m : ℕ) (tree : Tree) (form : Form)
-    (upper lower : Tree) → tree ≡ Test form upper lower → IsTestedContext s places here c
-    → IsToldIn s places c.vars c tree → here + m ≤ 8192 → IsSimple m tree → AreBranches s places here upper lower
-branches_made s places here c m tree form upper lower is at h le simple =
-    let k : AreBothChecked (IsToldIn s places c.vars) c form upper lower = checked_test c tree form upper lower h is in
-    let l : AreBothSimple m form upper lower = simple_both m tree form upper lower simple is in
-    record {
-      first = test_yes c form;
-      second = test_no c form;
-      first_at = tested_yes s places here c form at k.over k.within;
-      second_at = tested_no s places here c form at k.over k.within;
-      first_checked = k.above;
-      second_checked = k.below;
-      fewer = l.fewer;
-      few = omega (arith, le, l.less);
-      first_simple = l.above;
-      second_simple = l.below;
-    }
+pub one_chosen : (w : Answered) (x : Writer) (one : Just) (counts : List ℕ) → IsWriterIn w x → w.only ≡ Some one
+    → take 1 (drop one.level counts) ≡ chosen_levels (which_of w) (write_of x.strides).number counts
+one_chosen w x one counts h only =
+    let u : ℕ = (write_of x.strides).number in
+    let number : u ≡ one.writer = subst (λ o. MayName (which_in o) u) only h.may in
+    sym (ap (λ o. chosen_levels (which_in o) u counts) only
+    ∙ ap (λ b. cond b (take 1 (drop one.level counts)) []) (eq-eqb u one.writer number))
 
-pub test_made : (s : Strides) (places : List ℕ) (here : ℕ) (tree : Tree) (form : Form)
-    (upper lower above below own : Tree) → tree ≡ Test form upper lower
-    → IsConvertedTree s places (here + 1) upper above → IsConvertedTree s places (here + 1) lower below
-    → own ≡ Test form above below → IsConvertedTree s places here tree own
-test_made s places here tree form upper lower above below own is a b own_is =
-    subst (λ tree. IsConvertedTree s places here tree own) (sym is)
-    (test_converted s places here form upper lower above below own a b own_is)
+pub all_chosen : (w : Answered) (x : Writer) (counts : List ℕ) → w.only ≡ None
+    → counts ≡ chosen_levels (which_of w) (write_of x.strides).number counts
+all_chosen w x counts all = sym (ap (λ o. chosen_levels (which_in o) (write_of x.strides).number counts) all)
 
--- a place of a checked leaf
-pub leaf_place : (c : Context) (depth : ℕ) (place : List Form) → length place ≡ depth → HaveVariables c.vars place
-    → All (IsWithin (2 ^ 40)) place → IsPlaceIn c depth place
-leaf_place c depth place deep over within = record {
-  deep = deep;
-  over = over;
-  within = All-weaker (IsWithin (2 ^ 40)) (IsWithin (2 ^ 48)) (λ f k. IsWithin-weaker (2 ^ 40) (2 ^ 48) f (omega arith) k) place within;
-}
+pub few_chosen : (which : Which) (u : ℕ) (counts : List ℕ) → All (λ k. k ≤ 32) counts
+    → All (λ k. k ≤ 32) (chosen_levels which u counts)
+few_chosen every u counts few = few
+few_chosen (just n p) u counts few = go (u == n) where
+  go : (b : Bool) → All (λ k. k ≤ 32) (cond b (take 1 (drop p counts)) [])
+  go true = All-take (λ k. k ≤ 32) 1 (drop p counts) (All-drop (λ k. k ≤ 32) p counts few)
+  go false = All-nil _
 
--- a Writer leaf
-pub writer_converted : (s : Strides) → IsStrided s → (places : List ℕ) (here n : ℕ) (place own_place : List Form)
-    (told proofs : List Proof) (own : Tree) → own_place ≡ place → own ≡ Writer n own_place proofs
-    → ((c : Context) (place : List Form) → IsTestedContext s places here c → IsPlaceIn c (depth_of_write s) place
-    → All (IsWithin (2 ^ 40)) place
-    → AreRefuted (point_systems (told_read c.vars places (read_of s) (write_of s)) (told_write (write_of s)) s.level c
-    place) told
-    → AreRefuted (point_systems (read_of s) (write_of s) s.level c place) proofs)
-    → ((c : Context) (place : List Form) → IsTestedContext s places here c → IsPlaceIn c (depth_of_write s) place
-    → All (IsWithin (2 ^ 40)) place
-    → AreRefuted (point_systems (told_read c.vars places (read_of s) (write_of s)) (told_write (write_of s)) s.level c
-    place) told → All IsLightSum told
-    → AreWriterCutSums (read_of s) (write_of s) s.level c place proofs)
-    → IsConvertedTree s places here (Writer n place told) own
-writer_converted s strided places here n place own_place told proofs own forms is refuted cuts =
-    let own_is : own ≡ Writer n place proofs = is ∙ ap (λ place. Writer n place proofs) forms in
-    record {
-      checked = λ c tests t h simple.
-          (let k : IsCheckedPoint (told_read c.vars places (read_of s) (write_of s)) (told_write (write_of s)) s.level c n
-          place told
-          = checked_point (told_read c.vars places (read_of s) (write_of s)) (told_write (write_of s)) s.level c
-          (Writer n place told) n place told h refl in
-          let l : IsSimplePoint place told = simple_point tests (Writer n place told) n place told simple refl in
-          let at : IsPlaceIn c (depth_of_write s) place =
-          leaf_place c (depth_of_write s) place k.deep k.over l.within in (
-            point_in s.nest.now (read_of s) (write_of s) s.level strided.strided.write c own place proofs
-                (own_is ∙ ap (λ n. Writer n place proofs) k.number) k.deep k.over
-                (refuted c place t at l.within k.refuted),
-            cut_writer tests c own n place proofs own_is at.within (cuts c place t at l.within k.refuted l.light),
-          ));
-      same = λ x. gives-Writer x own n place proofs own_is ∙ sym (gives-Writer x (Writer n place told) n place told refl);
-    }
-
--- a Zero leaf
-pub zero_converted : (s : Strides) → IsStrided s → (places : List ℕ) (here : ℕ) (told proofs : List Proof) (own : Tree)
-    → own ≡ Zero proofs
-    → ((c : Context) → IsTestedContext s places here c
-    → AreRefuted (none_systems (told_read c.vars places (read_of s) (write_of s)) (told_write (write_of s)) s.level c) told
-    → AreRefuted (none_systems (read_of s) (write_of s) s.level c) proofs)
-    → ((c : Context) → IsTestedContext s places here c
-    → AreRefuted (none_systems (told_read c.vars places (read_of s) (write_of s)) (told_write (write_of s)) s.level c) told
-    → All IsLightSum told → AreNoneCutSums (read_of s) (write_of s) s.level c proofs)
-    → IsConvertedTree s places here (Zero told) own
-zero_converted s strided places here told proofs own is refuted cuts =
-    record {
-      checked = λ c tests t h simple.
-          (let k = checked_zero c (Zero told) told h refl in (
-            none_in s.nest.now (read_of s) (write_of s) s.level strided.strided.write c own proofs is (refuted c t k.0),
-            cut_zero tests c own proofs is (cuts c t k.0 (simple_none tests (Zero told) told simple refl)),
-          ));
-      same = λ x. gives-Zero x own proofs is ∙ sym (gives-Zero x (Zero told) told refl);
-    }
+pub writer_levels : (w : Answered) (here : ℕ) (rest : List RowExpr) (x : Writer) → IsAtLeaf w here rest
+    → IsWriterOf w.nest.now (occurrence_of w.read) w.tests.now x
+    → HaveOrderRows (write_vars w x)
+    (chosen_levels (which_of w) (write_of x.strides).number (order_counts (write_of x.strides) (occurrence_of w.read)))
+    (levels_of w x (fact_context w rest))
+writer_levels w here rest x at of =
+    let c : Context = fact_context w rest in
+    let u : Occurrence = write_of x.strides in
+    let r : Occurrence = read_of x.strides in
+    subst (λ r. HaveOrderRows (write_vars w x) (chosen_levels (which_of w) u.number (order_counts u r)) (levels_of w x c))
+    of.read
+    (chosen_rows (write_vars w x) (which_of w) u.number (order_counts u r)
+    (before_rows u.number u.statement (writer_place c u) r.number r.statement (reader_place r))
+    (level_rows x.strides c (reader_inside w (here + length w.cuts.now) c x at of)))

@@ -34,4 +34,15 @@ mod QuotientValues
 mod TreeValues
 mod CandidatePromise
 mod ProofConversion
-mod ProofParts
+pub mod ReadBounds
+pub mod Below
+pub mod WriterTests
+mod LevelCounts
+mod ProofSteps
+mod OrderSteps
+mod WriterSteps
+mod FactLeaves
+mod TreeConversion
+mod WriterLeaves
+mod Opens
+mod Alone

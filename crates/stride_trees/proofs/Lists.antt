@@ -2,9 +2,10 @@
 --
 -- Rows that were made are as many as they are made from, and each has the parts of its own. Systems and proofs that are
 -- refuted one by one fall into front and back where the counts do.
-use Rattle.std.proofs.Common.{◌≡◌, ℕ, zero, suc, List, [], ◌∷◌, ◌++◌, length, refl, sym, ap, ◌∙◌}
-use Rattle.std.specs.Prelude.{Some, None, slice_get}
+use Rattle.std.proofs.Common.{◌≡◌, ℕ, zero, suc, List, [], ◌∷◌, ◌++◌, length, refl, sym, ap, ◌∙◌, arith}
+use Rattle.std.specs.Prelude.{All, Some, None, slice_get}
 use Rattle.std.specs.Option.{option_and_then}
+use Rattle.std.proofs.lemmas.List.Elements.{All-cons, All-head, All-nil, All-tail}
 use Rattle.std.proofs.lemmas.Option.{same_Some, option_and_then_some}
 use Rattle.affine_core.specs.declared.form.Form.{Form}
 use Rattle.int_polyhedra.specs.declared.system.Proof.{Proof}
@@ -92,3 +93,18 @@ refuted_apart (s ∷ first) second (p ∷ proofs) h =
       of_first = (h.0, b.of_first);
       of_second = b.of_second;
     }
+
+-- proofs in two parts, as their systems
+pub refuted_parts : (first second : List RowSystem) (ps qs : List Proof) → length ps ≡ length first
+    → AreRefuted (first ++ second) (ps ++ qs) → AreRefuted first ps × AreRefuted second qs
+refuted_parts [] second [] qs e h = (tt, h)
+refuted_parts [] second (p ∷ ps) qs e h = absurd (omega arith)
+refuted_parts (x ∷ first) second [] qs e h = absurd (omega arith)
+refuted_parts (x ∷ first) second (p ∷ ps) qs e h =
+    let rest = refuted_parts first second ps qs (omega (arith, e)) h.1 in ((h.0, rest.0), rest.1)
+
+pub all_parts : (P : Proof → Type 0) (ps qs : List Proof) → All P (ps ++ qs) → All P ps × All P qs
+all_parts P [] qs h = (All-nil P, h)
+all_parts P (p ∷ ps) qs h =
+    let rest = all_parts P ps qs (All-tail P p (ps ++ qs) h) in
+    (All-cons P p ps (All-head P p (ps ++ qs) h) rest.0, rest.1)

@@ -11,7 +11,7 @@ use Rattle.affine_core.specs.declared.form.Form.{Form}
 use Rattle.int_polyhedra.specs.declared.system.Proof.{Proof}
 use Rattle.int_polyhedra.specs.declared.system.Proof.TheVariants.{Sum}
 use Rattle.int_polyhedra.specs.declared.system.Term.{Term}
-use Rattle.tree_graphs.specs.Asked.{IsCell}
+use Rattle.tree_graphs.specs.Problems.{IsCell}
 use Rattle.tree_graphs.specs.Simple.{IsLightSum}
 use Rattle.tree_graphs.proofs.ProblemBounds.{form_is, FormFits}
 use Rattle.tree_sums.specs.Parts.{weight, IsWithin}

@@ -2,12 +2,11 @@
 --
 -- Where the lists end there is nothing to be made, and where only the proofs end there were fewer than systems, which
 -- are refuted by none. Else the first proof is made, and the others by induction.
-use Rattle.std.proofs.Common.{◌≡◌, ◌+◌, ◌*◌, ◌^◌, ◌≤◌, ◌||◌, ℕ, List, [], ◌∷◌, ◌++◌, length, map, take, drop}
-use Rattle.std.proofs.Common.{true, sym, ap, ◌∙◌, subst, arith, append_assoc}
+use Rattle.std.proofs.Common.{◌≡◌, ◌+◌, ◌*◌, ◌^◌, ◌≤◌, ◌||◌, ℕ, List, [], ◌∷◌, ◌++◌, length, take, drop}
+use Rattle.std.proofs.Common.{true, sym, ap, ◌∙◌, subst, arith}
 use Rattle.std.specs.Prelude.{All}
 use Rattle.std.specs.List.{list_all}
 use Rattle.std.proofs.lemmas.List.{length-map, length-take-le, take-append-drop}
-use Rattle.std.proofs.lemmas.List.Elements.{All-head, All-tail}
 use Rattle.std.proofs.lemmas.Bool.{and_parts}
 use Rattle.affine_core.specs.declared.form.Form.{Form}
 use Rattle.tree_graphs.specs.Joint.{IsSum}
@@ -25,7 +24,7 @@ use Rattle.source_tree.proofs.Refutations.{AreRefuted-append}
 use Rattle.stride_trees.specs.Candidates.{order_number, AreCutSums, IsCutSumOf}
 use Rattle.tree_cuts.specs.Class.{is_pair, is_single}
 use Rattle.stride_trees.specs.Contexts.{differing, outside_of, own_system, outside_cell_systems, told_system, AddsConverted}
-use Rattle.stride_trees.specs.Contexts.{AreMadeSmall, AreOrders, AreTestsIn, IsPlaceIn, IsTestedContext}
+use Rattle.stride_trees.specs.Contexts.{AreMadeSmall, AreTestsIn, IsPlaceIn, IsTestedContext}
 use Rattle.tree_cuts.specs.Cuts.{converted_sum}
 use Rattle.stride_trees.specs.Problem.{problem_reads, problem_rows, problem_writes, told_read, told_write}
 use Rattle.tree_cuts.specs.Sources.{divided_form, last_converted, next_place, places_behind, row_source}
@@ -35,7 +34,7 @@ use Rattle.tree_cuts.specs.declared.cuts.Source.{Source}
 use Rattle.stride_trees.specs.declared.strides.Strides.{Strides}
 use Rattle.stride_trees.proofs.SystemConversion.{converted_write, write_cut_sum}
 use Rattle.stride_trees.proofs.ProblemBounds.{are_fitting, AreFitting}
-use Rattle.stride_trees.proofs.LeafConversion.{all_parts, refuted_parts}
+use Rattle.stride_trees.proofs.Lists.{all_parts, refuted_parts}
 use Rattle.stride_trees.proofs.Lists.{cut_sums_both}
 use Rattle.stride_trees.proofs.PlaceProofs.{cells_step, light_terms, nothing_added, outside_step}
 
@@ -301,60 +300,3 @@ module _ (s : Strides) (strided : IsStrided s) (places : List ℕ) (here : ℕ) 
       → AreCutSums (here + 1) (outside_cell_systems (read_of s) (write_of s) c place) proofs
   placed_cuts c place at in_place =
       place_cuts s strided places here told first second middle proofs told_is first_count a' b' c place at in_place
-
--- Writes between a place and the read
-
-abbrev pub Between : Strides → List ℕ → ℕ → ℕ → List Proof → List Proof → List Proof → Type 0
-Between s places here more told old new =
-    (c : Context) (level : List RowExpr) (further : List (List RowExpr)) → IsTestedContext s places here c
-    → AreOrders (c.vars + depth_of_write s) more level further
-    → AddsConverted (order_number (read_of s) (write_of s) c) (Unit {0})
-    (map (λ rows. told_system s places c (level ++ rows)) further) (map (λ rows. own_system s c (level ++ rows)) further)
-    told old new
-
-pub between_end : (s : Strides) (places : List ℕ) (here more : ℕ) (told old : List Proof) → told ≡ []
-    → Between s places here more told old old
-between_end s places here more told old none c level [] at orders =
-    nothing_added (order_number (read_of s) (write_of s) c) (Unit {0}) [] [] told old (λ h. tt) (λ h. tt)
-between_end s places here more told old none c level (rows ∷ further) at orders =
-    subst (λ told. AddsConverted (order_number (read_of s) (write_of s) c) (Unit {0})
-    (map (λ rows. told_system s places c (level ++ rows)) (rows ∷ further))
-    (map (λ rows. own_system s c (level ++ rows)) (rows ∷ further)) told old old) (sym none)
-    (nothing_added (order_number (read_of s) (write_of s) c) (Unit {0})
-    (map (λ rows. told_system s places c (level ++ rows)) (rows ∷ further))
-    (map (λ rows. own_system s c (level ++ rows)) (rows ∷ further)) [] old (λ h. absurd h) (λ h. absurd h))
-
-pub between_next : (s : Strides) (places : List ℕ) (here more : ℕ) (told : List Proof) (proof : Proof) (from : List Proof)
-    (own : Proof) (old next new : List Proof) → told ≡ proof ∷ from → next ≡ old ++ own ∷ []
-    → ((c : Context) (order : List RowExpr) → IsTestedContext s places here c
-    → AreMadeSmall (c.vars + depth_of_write s) order → length order ≡ more
-    → IsRefuted (told_system s places c order) proof → IsRefuted (own_system s c order) own)
-    → ((c : Context) (order : List RowExpr) → IsTestedContext s places here c
-    → AreMadeSmall (c.vars + depth_of_write s) order → length order ≡ more
-    → IsRefuted (told_system s places c order) proof → IsLightSum proof
-    → IsCutSumOf (order_number (read_of s) (write_of s) c) (own_system s c order) own)
-    → Between s places here (more + 2) from next new → Between s places here more told old new
-between_next s places here more told proof from own old next new first next_is refutes cuts h c level [] at orders =
-    let rest = h c level [] at tt in
-    subst (λ told. AddsConverted (order_number (read_of s) (write_of s) c) (Unit {0}) [] [] told old new) (sym first)
-    (record {
-      added = own ∷ rest.added;
-      is = rest.is ∙ ap (λ ps. ps ++ rest.added) next_is ∙ append_assoc old (own ∷ []) rest.added;
-      refuted = λ k. absurd k;
-      cuts = λ near k light. absurd k;
-    })
-between_next s places here more told proof from own old next new first next_is refutes cuts h c level (rows ∷ further) at
-    orders =
-    let rest = h c level further at orders.2 in
-    subst (λ told. AddsConverted (order_number (read_of s) (write_of s) c) (Unit {0})
-    (map (λ rows. told_system s places c (level ++ rows)) (rows ∷ further))
-    (map (λ rows. own_system s c (level ++ rows)) (rows ∷ further)) told old new) (sym first)
-    (record {
-      added = own ∷ rest.added;
-      is = rest.is ∙ ap (λ ps. ps ++ rest.added) next_is ∙ append_assoc old (own ∷ []) rest.added;
-      refuted = λ k. (refutes c (level ++ rows) at orders.1 orders.0 k.0, rest.refuted k.1);
-      cuts = λ near k light. (
-        cuts c (level ++ rows) at orders.1 orders.0 k.0 (All-head IsLightSum proof from light),
-        rest.cuts near k.1 (All-tail IsLightSum proof from light),
-      );
-    })

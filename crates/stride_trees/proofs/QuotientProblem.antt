@@ -15,10 +15,9 @@ use Rattle.std.proofs.lemmas.List.Elements.{All-nil, All-cons}
 use Rattle.std.proofs.lemmas.Option.{slice_get-map}
 use Rattle.affine_core.specs.declared.form.Form.{Form}
 use Rattle.affine_core.specs.Affine.{form_product, variable_form, widened_form}
-use Rattle.tree_graphs.specs.Asked.{read_of as asked_read, write_of as asked_write, AreCells, IsAsked, IsCell, IsProblem}
+use Rattle.tree_graphs.specs.Problems.{read_with, write_with, AreCells, IsCell, IsProblem}
 use Rattle.tree_graphs.specs.Class.{count_of, is_shift}
-use Rattle.tree_graphs.specs.Level.{common_of, HasLevel}
-use Rattle.tree_graphs.specs.declared.writes.Writes.{Writes}
+use Rattle.tree_graphs.specs.Level.{HasLevel}
 use Rattle.tree_graphs.proofs.ProblemBounds.{form_is, FormFits}
 use Rattle.tree_graphs.proofs.OrderEdges.{variable_over, variable_within}
 use Rattle.tree_graphs.proofs.Small.{negative_over, negative_within}
@@ -275,7 +274,7 @@ told_problem n r w p q vars places a level reader few each enough =
       differences = rows_differ w.statement.rows f.row_kinds;
       bounded = λ loop lt.
           (let b = bounded_above n w.number w.statement loop f.named.is lt in
-          rows_bound w.statement.rows loop b.0 b.1 b.2 b.3);
+          ∣ rows_bound w.statement.rows loop b.0 b.1 b.2 b.3 ∣₁);
       few_subscripts = omega (arith, length-map w.access.subscripts problem_write, f.few_subscripts);
       cells = told_cells (length w.statement.loops) (length r.statement.loops) vars places w.access.subscripts
           r.access.subscripts f.even f.writes f.kinds f.reads reader
@@ -300,23 +299,18 @@ reads_short d vars (read ∷ reads) le e =
     All-cons (λ (read : Form). length read.coefs ≤ vars) read reads
     (omega (arith, (form_is d read b.0).over, le)) (reads_short d vars reads le b.1)
 
-pub told_asked : (s : Strides) → IsStrided s → (w : Writes) (vars : ℕ) (places : List ℕ) → ArePlaces s vars places
-    → asked_read w ≡ told_read vars places (read_of s) (write_of s) → asked_write w ≡ told_write (write_of s)
-    → w.vars ≡ vars → w.level ≡ s.level → w.common ≡ s.common → IsAsked w
-told_asked s strided w vars places at read write vars_is level common =
+-- the problem at the level, where its rows and subscripts are copied
+pub told_level : (s : Strides) → IsStrided s → (vars : ℕ) (places : List ℕ) → ArePlaces s vars places
+    → (reads rows writes : List Form) → read_with s.read reads ≡ told_read vars places (read_of s) (write_of s)
+    → write_with s.write rows writes ≡ told_write (write_of s)
+    → IsProblem vars (read_with s.read reads) (write_with s.write rows writes) s.level
+told_level s strided vars places at reads rows writes read write =
     let f : AreFitting s.nest.now (read_of s) (write_of s) s.level =
     are_fitting s.nest.now (read_of s) (write_of s) s.level strided.strided in
-    let own : IsProblem vars (told_read vars places (read_of s) (write_of s)) (told_write (write_of s)) s.level
-    = told_problem s.nest.now (read_of s) (write_of s) s.level s.level vars places strided.strided strided.strided.level
-    at.reader (omega (arith, at.few, f.few_vars)) at.each at.enough in
-    record {
-      problem = subst (λ v. IsProblem v (asked_read w) (asked_write w) w.level) (sym vars_is)
-          (subst (λ r. IsProblem vars r (asked_write w) w.level) (sym read)
-          (subst (λ v. IsProblem vars (told_read vars places (read_of s) (write_of s)) v w.level) (sym write)
-          (subst (IsProblem vars (told_read vars places (read_of s) (write_of s)) (told_write (write_of s))) (sym level) own)));
-      common = common ∙ strided.common
-          ∙ ap (λ r. common_of (told_write (write_of s)) r) (sym read) ∙ ap (λ v. common_of v (asked_read w)) (sym write);
-    }
+    subst (λ r. IsProblem vars r (write_with s.write rows writes) s.level) (sym read)
+    (subst (λ w. IsProblem vars (told_read vars places (read_of s) (write_of s)) w s.level) (sym write)
+    (told_problem s.nest.now (read_of s) (write_of s) s.level s.level vars places strided.strided strided.strided.level
+    at.reader (omega (arith, at.few, f.few_vars)) at.each at.enough))
 
 pub told_reader : (r w : Occurrence) (vars : ℕ) (places : List ℕ) (reads : List Form)
     → reads ≡ problem_reads vars (length r.statement.loops) places w.access.subscripts r.access.subscripts

@@ -12,7 +12,7 @@ use Rattle.std.proofs.Math.Nat.{mul-le-mul_right}
 use Rattle.std.proofs.lemmas.Bool.{and_parts}
 use Rattle.affine_core.specs.declared.form.Form.{Form}
 use Rattle.affine_core.specs.Affine.{variable_form}
-use Rattle.tree_graphs.specs.Asked.{AreCells, IsCell}
+use Rattle.tree_graphs.specs.Problems.{AreCells, IsCell}
 use Rattle.tree_graphs.specs.Class.{count_of}
 use Rattle.tree_graphs.proofs.ProblemBounds.{form_is, FormFits}
 use Rattle.tree_graphs.proofs.OrderEdges.{variable_over, variable_within}

@@ -1,5 +1,5 @@
--- The contexts below an answer to a test of divisibility, and when their numbers are small.
-use Rattle.std.specs.Prelude.{◌≡◌, ◌≤◌, ◌^◌, ◌≤ℤ◌, ℕ, pos, Bool, true, false, length, All, unsigned_abs}
+-- The contexts below answers to tests of divisibility, and when their numbers are small.
+use Rattle.std.specs.Prelude.{◌≡◌, ◌≤◌, ◌^◌, ◌≤ℤ◌, ℕ, pos, Bool, true, false, List, [], ◌∷◌, length, All, unsigned_abs}
 use Rattle.affine_core.specs.Affine.{widened_form}
 use Rattle.int_polyhedra.specs.Systems.{AreOver}
 use Rattle.int_polyhedra.specs.declared.system.System.{System}
@@ -18,6 +18,13 @@ pub record IsSmallTest (depth : ℕ) (d : Division) : Type 0 where
 abbrev pub below_answer : Context → Division → Bool → Context
 below_answer c d true = divides_yes c (widened_form c.vars d.form) d.divisor
 below_answer c d false = divides_no c (widened_form c.vars d.form) d.divisor
+
+-- the context below answers to the first of these tests
+abbrev pub answered_context : Context → List Division → List Bool → Context
+answered_context c [] answers = c
+answered_context c (d ∷ ds) [] = c
+answered_context c (d ∷ ds) (answer ∷ answers) =
+    answered_context (below_answer c d answer) ds answers
 
 -- the rows are over the variables, and their numbers are small
 pub record HasSmallRows (context : System) : Type 0 where

@@ -7,22 +7,20 @@ use Rattle.int_polyhedra.specs.declared.system.Proof.{Proof}
 use Rattle.int_polyhedra.specs.declared.system.System.{System}
 use Rattle.lex_max.specs.Answer.{IsAnswer}
 use Rattle.tree_graphs.specs.Asked.{read_of as asked_read, write_of as asked_write}
-use Rattle.tree_graphs.specs.Simple.{IsLightSum, IsSimple}
-use Rattle.tree_graphs.specs.Joint.{IsCheckedFor}
+use Rattle.tree_graphs.specs.Simple.{IsLightSum}
 use Rattle.tree_graphs.specs.declared.writes.Writes.{Writes}
 use Rattle.tree_sums.specs.Parts.{IsWithin}
 use Rattle.source_tree.specs.Checked.{AreRefuted, HaveVariables}
-use Rattle.source_tree.specs.Gives.{gives}
 use Rattle.source_tree.specs.Places.{at_place, differ_rows}
 use Rattle.source_tree.specs.Rows.{RowExpr, RowSystem, Take, below_zero, minus, row_forms}
 use Rattle.source_tree.specs.Systems.{Context, Occurrence, cell_systems, multiple, outside_systems, undivided_rows, with_rows, with_write_at}
 use Rattle.source_tree.specs.declared.tree.Tree.{Tree}
-use Rattle.stride_trees.specs.Candidates.{AreCutSums, IsCutTree}
+use Rattle.stride_trees.specs.Candidates.{AreCutSums}
 use Rattle.tree_cuts.specs.Class.{stride_of}
 use Rattle.stride_trees.specs.Divisions.{division_of}
 use Rattle.stride_trees.specs.Problem.{told_read, told_write}
 use Rattle.tree_cuts.specs.Sources.{next_place, places_behind}
-use Rattle.stride_trees.specs.Strides.{depth_of_read, read_of, root_of, tests_of, write_of, IsCheckedAt, IsSmallContext}
+use Rattle.stride_trees.specs.Strides.{depth_of_read, read_of, root_of, tests_of, write_of, IsSmallContext}
 use Rattle.stride_trees.specs.declared.divisions.Division.{Division}
 use Rattle.stride_trees.specs.declared.strides.Strides.{Strides}
 
@@ -124,25 +122,6 @@ differing c writes reads place = map (last_system c) (differ_rows writes reads p
 -- a place is outside the domain, or writes another cell
 abbrev pub outside_cell_systems : Occurrence → Occurrence → Context → List Form → List RowSystem
 outside_cell_systems r w c place = outside_systems c w place ++ cell_systems r c w place
-
--- the order rows of a level with further order rows behind, so many at first and two more each time
-abbrev pub AreOrders : ℕ → ℕ → List RowExpr → List (List RowExpr) → Type 0
-AreOrders vars more level [] = Unit {0}
-AreOrders vars more level (rows ∷ further) =
-    (length (level ++ rows) ≡ more) × AreMadeSmall vars (level ++ rows)
-    × AreOrders vars (more + 2) level further
-
--- A tree was made from one of the problem over quotients, in each context that has the tests: it is checked there for
--- the nest's own write and level, its proofs are Cuts and a Sum, and it gives the same.
-pub record IsConvertedTree (s : Strides) (places : List ℕ) (here : ℕ) (told own : Tree)
-    : Type 0 where
-  pub checked : (c : Context) (tests : ℕ) → IsTestedContext s places here c
-      → IsCheckedFor (told_read c.vars places (read_of s) (write_of s)) (told_write (write_of s))
-      s.level c
-      told
-      → IsSimple tests told
-      → IsCheckedAt s c own × IsCutTree (read_of s) (write_of s) s.level tests c own
-  pub same : (x : List ℤ) → gives own x ≡ gives told x
 
 -- the places of its tests where no other tests are: 0, 1, 2 and so on
 abbrev pub first_places : Strides → List ℕ

@@ -5,3 +5,6 @@ pub mod Candidates
 pub mod Strides
 pub mod Problem
 pub mod Contexts
+pub mod Writers
+pub mod Leaves
+pub mod Converted

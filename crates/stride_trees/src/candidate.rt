@@ -1,6 +1,6 @@
 //! The greatest points of one writer at one level before a read of the stride class.
 
-ghost use Rattle.std.specs.Prelude.{◌≡◌, ◌≤◌, ◌+◌, ◌++◌, Some, IfOk, OnOk};
+ghost use Rattle.std.specs.Prelude.{◌≡◌, ◌≤◌, ◌+◌, [], ◌∷◌, ◌++◌, true, length, replicate, Some, IfOk, OnOk};
 ghost use Rattle.std.specs.List.{range_with_len};
 ghost use Rattle.tree_graphs.specs.Asked.{HasLevelOf, WritesArrayOf};
 ghost use Rattle.lex_max.specs.Leaves.{IsMadeFrom};
@@ -11,15 +11,18 @@ ghost use Rattle.source_tree.specs.declared.tree.Tree.{Tree as TreeOf};
 ghost use Rattle.stride_trees.specs.Candidates.{IsStrideTree};
 ghost use Rattle.tree_cuts.specs.Class.{IsInStrideClass};
 ghost use Rattle.stride_trees.specs.Contexts.{first_places, IsToldTree};
+ghost use Rattle.stride_trees.specs.Leaves.{IsAlone, IsOwnWriter};
 ghost use Rattle.stride_trees.specs.Strides.{depth_of_read, read_of, root_of, tested_context, tests_of, write_of, IsLastTree, IsStrided, IsTested};
 ghost use Rattle.source_tree.specs.References.{occurrence_of};
+ghost use Rattle.stride_trees.specs.declared.writers.Writer.{Writer as WriterOf};
 
 use crate::contexts::context_of;
 use crate::divisions::{Division, divisions_of};
-use crate::leaves::converted_tree;
+use crate::leaves::{Answered, Just, converted};
 use crate::problem::{problem_of, told};
 use crate::strides::Strides;
 use crate::tests::with_tests;
+use crate::writers::Writer;
 use int_polyhedra::System;
 use lex_max::tree_of;
 use plain_data::Items;
@@ -152,6 +155,62 @@ fn told_tree(s: &Strides, places: &[u32], context: &System) -> Result<Tree, Allo
     tree_of(&w, context)
 }
 
+// Adds the answer yes so many times.
+fn push_yes(answers: &mut Items<bool>, count: usize) -> Result<(), AllocError>
+    ensures { OnOk result (answers.new ≡ answers.old ++ replicate count true) }
+{
+    if count == 0 {
+        return Ok(());
+    }
+    answers.push(true)?;
+    push_yes(answers, count - 1)
+}
+
+// The writer, whose tests are asked at the places 0, 1, 2 and so on.
+fn writer_of<'a>(s: &Strides<'a>) -> Result<Writer<'a>, AllocError>
+    requires { IsStrided s.now }
+    ensures { IfOk result (IsOwnWriter s.now) }
+{
+    let writes = s.write.access.subscripts.as_slice();
+    let reads = s.read.access.subscripts.as_slice();
+    let divisions = divisions_of(s.alloc, writes, reads)?;
+    let mut places = Items::new(s.alloc);
+    push_range(&mut places, 0, divisions.len())?;
+    Ok(Writer {
+        strides: *s,
+        divisions,
+        places,
+    })
+}
+
+// The one writer at its level, where its tests all say yes.
+fn alone<'a>(
+    s: &Strides<'a>,
+    writers: &'a [Writer<'a>],
+    tests: &'a [Division],
+    answers: &'a [bool],
+) -> Answered<'a>
+    requires writer { (x : WriterOf) × IsOwnWriter s.now x × (writers.now ≡ x ∷ []) }
+    requires tests { tests.now ≡ tests_of s.now }
+    requires answers { answers.now ≡ replicate (length (tests_of s.now)) true }
+    ensures { IsAlone s.now result }
+{
+    Answered {
+        alloc: s.alloc,
+        nest: s.nest,
+        read: s.read,
+        writers,
+        tests,
+        answers,
+        cuts: &[],
+        facts: &[],
+        only: Some(Just {
+            writer: s.write.number,
+            level: s.level,
+        }),
+    }
+}
+
 // The tree where all tests say yes.
 fn last_tree(s: &Strides, divisions: &[Division]) -> Result<Tree, AllocError>
     requires strided { IsStrided s.now }
@@ -159,14 +218,14 @@ fn last_tree(s: &Strides, divisions: &[Division]) -> Result<Tree, AllocError>
     ensures { IfOk result (IsLastTree s.now) }
 {
     let context = context_of(s, divisions)?;
-    let mut found = Items::new(s.alloc);
-    push_range(&mut found, 0, divisions.len())?;
-    let places = found.as_slice();
-    let tree = told_tree(s, places, &context)?;
-    let count = context.rows.len() as u32;
-    let own = converted_tree(s, places, count, &tree);
-    drop(tree);
-    own
+    let mut answers = Items::new(s.alloc);
+    push_yes(&mut answers, divisions.len())?;
+    let writer = writer_of(s)?;
+    let tree = told_tree(s, writer.places.as_slice(), &context)?;
+    let mut writers = Items::new(s.alloc);
+    writers.push(writer)?;
+    let w = alone(&*s, writers.as_slice(), &*divisions, answers.as_slice());
+    converted(&w, context.rows.len() as u32, tree)
 }
 
 // The tree of a read and a write.

@@ -17,15 +17,15 @@ mod problem;
 mod strides;
 mod tests;
 mod undivided;
+mod writers;
 
 pub use always::{always_divides, no_is_nowhere};
 pub use candidate::{stride_candidate, strides_of};
 pub use contexts::below_test;
-pub use convert::{back, converted_place, converted_write, front, sum_terms};
 pub use divisions::{Division, divisions_of};
-pub use leaves::converted_tree;
+pub use leaves::{Answered, Just, converted, refusal_of};
 pub use never::{never_divides, never_write};
 pub use problem::{problem_of, told};
 pub use strides::Strides;
 pub use tests::with_tests;
-pub use undivided::undivided_write;
+pub use writers::{NO_PLACE, Writer};

@@ -1,7 +1,7 @@
 ghost use Rattle.std.specs.Prelude.{◌≡◌, ◌≤◌, ◌<◌, ◌+◌, ◌^◌, ◌++◌, ◌||◌, ℕ, List, length, All, IfOk, IsTrue, OnOk};
 ghost use Rattle.std.specs.List.{count_by};
 ghost use Rattle.affine_core.specs.Affine.{variable_form};
-ghost use Rattle.tree_graphs.specs.Asked.{read_of as asked_read, write_of as asked_write, IsAsked};
+ghost use Rattle.tree_graphs.specs.Asked.{read_of as asked_read, write_of as asked_write};
 ghost use Rattle.tree_sums.specs.Parts.{IsWithin};
 ghost use Rattle.tree_cuts.specs.Class.{is_stride};
 ghost use Rattle.stride_trees.specs.Problem.{problem_read as read_told, problem_reads, problem_rows, problem_write as write_told, problem_writes, told_read, told_write, IsToldProblem};
@@ -199,7 +199,6 @@ pub fn told<'a>(s: &Strides<'a>, vars: usize, problem: &'a Problem<'a>) -> Write
     requires strided { IsStrided s.now }
     requires told { (places : List ℕ) × ArePlaces s.now vars places
         × IsToldProblem s.now vars places problem.now }
-    ensures asked { IsAsked result }
     ensures vars { result.vars ≡ vars }
     ensures level { result.level ≡ s.now.level }
     ensures number { result.write.number ≡ s.now.write.number }

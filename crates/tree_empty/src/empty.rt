@@ -3,12 +3,12 @@ ghost use Rattle.std.specs.Bool.{OnTrue};
 ghost use Rattle.tree_graphs.specs.Heights.{height_of};
 ghost use Rattle.tree_graphs.specs.Joint.{IsTreeFor, ReadAndWrite};
 ghost use Rattle.int_polyhedra.specs.Rules.{Refutes};
-ghost use Rattle.tree_graphs.specs.Facts.{IsContext};
 
 use int_polyhedra::{Proof, System, Term, refutes};
 use plain_data::Items;
 use source_tree::Tree;
 use std::alloc::{AllocError, Global};
+use tree_graphs::Context;
 
 // The most steps of the linear program.
 const PIVOTS: usize = 200;
@@ -89,19 +89,17 @@ fn column_sums(
 }
 
 // Adds the rows of the table and their sum, the cost row. Answers whether all numbers fit 128 bits.
-fn fill(table: &mut Table, context: &System) -> Result<bool, AllocError>
-    requires { IsContext context.now }
-{
-    let width = context.rows.len() + 1;
-    if !push_row(table, context, None, width)? {
+fn fill(table: &mut Table, context: &Context) -> Result<bool, AllocError> {
+    let width = context.system.rows.len() + 1;
+    if !push_row(table, context.system, None, width)? {
         return Ok(false);
     }
-    for variable in 0..context.vars as usize {
-        if !push_row(table, context, Some(variable), width + 1 + variable)? {
+    for variable in 0..context.system.vars as usize {
+        if !push_row(table, context.system, Some(variable), width + 1 + variable)? {
             return Ok(false);
         }
     }
-    match column_sums(context.rows.allocator(), table, width + 1)? {
+    match column_sums(context.system.rows.allocator(), table, width + 1)? {
         Some(cost) => {
             table.rows.push(cost)?;
             Ok(true)
@@ -112,14 +110,12 @@ fn fill(table: &mut Table, context: &System) -> Result<bool, AllocError>
 
 // The table of the multipliers of rows whose sum has no variable and a constant of -1 at most,
 // where what is missing is beside the basis.
-fn first_table(context: &System) -> Result<Option<Table>, AllocError>
-    requires { IsContext context.now }
-{
-    let alloc = context.rows.allocator();
+fn first_table(context: &Context) -> Result<Option<Table>, AllocError> {
+    let alloc = context.system.rows.allocator();
     let mut table = Table {
         rows: Items::new(alloc),
         basis: Items::new(alloc),
-        width: context.rows.len() + 1,
+        width: context.system.rows.len() + 1,
         divisor: 1,
     };
     match fill(&mut table, context) {
@@ -280,12 +276,10 @@ fn solved(alloc: Global, table: &mut Table) -> Result<Option<Items<Term>>, Alloc
 
 // Rows whose sum may be a negative number, by the simplex of few steps. Nothing is promised of
 // them.
-fn contradiction(context: &System) -> Result<Option<Items<Term>>, AllocError>
-    requires { IsContext context.now }
-{
+fn contradiction(context: &Context) -> Result<Option<Items<Term>>, AllocError> {
     match first_table(context)? {
         Some(mut table) => {
-            let found = solved(context.rows.allocator(), &mut table);
+            let found = solved(context.system.rows.allocator(), &mut table);
             drop(table);
             found
         }
@@ -307,18 +301,17 @@ fn are_differences(context: &System) -> bool {
 }
 
 // Whether the proof shows that nothing meets the context.
-fn is_refuted(context: &System, proof: &Proof) -> bool
-    requires { IsContext context.now }
-    ensures { OnTrue result (Refutes context.now.vars context.now.rows proof.now) }
+fn is_refuted(context: &Context, proof: &Proof) -> bool
+    ensures { OnTrue result
+        (Refutes context.now.system.now.vars context.now.system.now.rows proof.now) }
 {
-    refutes(context, proof).is_ok()
+    refutes(context.system, proof).is_ok()
 }
 
 // The Dead leaf of a context, where the sum of these rows shows that nothing meets it.
-fn dead_by(context: &System, terms: Items<Term>) -> Option<Tree>
-    requires { IsContext context.now }
+fn dead_by(context: &Context, terms: Items<Term>) -> Option<Tree>
     ensures joined { IfSome result
-        (λ tree. (pairs : List ReadAndWrite) → IsTreeFor pairs context.now tree) }
+        (λ tree. (pairs : List ReadAndWrite) → IsTreeFor pairs context.now.system.now tree) }
     ensures low { IfSome result (λ tree. height_of tree ≡ 0) }
 {
     let proof = Proof::Sum(terms);
@@ -332,13 +325,12 @@ fn dead_by(context: &System, terms: Items<Term>) -> Option<Tree>
 /// The Dead leaf of a context that nothing meets, where its rows tell that soon. Where they all are
 /// differences, a Test is asked only of what neither side is known of, so that nothing is looked
 /// for.
-pub fn dead_leaf(context: &System) -> Result<Option<Tree>, AllocError>
-    requires { IsContext context.now }
+pub fn dead_leaf(context: &Context) -> Result<Option<Tree>, AllocError>
     ensures joined { IfOk result (λ leaf. IfSome leaf
-        (λ tree. (pairs : List ReadAndWrite) → IsTreeFor pairs context.now tree)) }
+        (λ tree. (pairs : List ReadAndWrite) → IsTreeFor pairs context.now.system.now tree)) }
     ensures low { IfOk result (λ leaf. IfSome leaf (λ tree. height_of tree ≡ 0)) }
 {
-    if are_differences(context) {
+    if are_differences(context.system) {
         return Ok(None);
     }
     match contradiction(context)? {

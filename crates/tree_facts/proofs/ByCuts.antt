@@ -13,10 +13,10 @@ use Rattle.int_polyhedra.specs.Rules.{by_cut, Refutes}
 use Rattle.tree_cuts.specs.Cuts.{AddRows, AddsRow}
 use Rattle.tree_cuts.specs.declared.cuts.Cut.{Cut}
 use Rattle.tree_cuts.proofs.CutRows.{adds_behind, add_behind}
-use Rattle.tree_facts.specs.Behind.{proof_behind}
 use Rattle.tree_facts.specs.Cuts.{proof_by_cut, proof_by_cuts}
 use Rattle.tree_facts.proofs.Moving.{refutes_behind}
-use Rattle.tree_trim.specs.Proofs.{names_row, proof_without}
+use Rattle.tree_trim.specs.Proofs.{names_row}
+use Rattle.tree_trim.specs.Renumbering.{proof_behind, proof_without}
 use Rattle.tree_trim.proofs.Refuting.{refutes_without}
 
 -- One fact

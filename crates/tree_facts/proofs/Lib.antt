@@ -1,4 +1,3 @@
-pub mod Folds
 pub mod Moving
 pub mod ByCuts
 pub mod Wider

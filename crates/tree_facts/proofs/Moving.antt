@@ -16,8 +16,9 @@ use Rattle.int_polyhedra.specs.Rules.{by_cut, by_split, by_sum, IsSumOf, Refutes
 use Rattle.int_polyhedra.specs.Steps.{quotient_row}
 use Rattle.plain_data.proofs.Lists.{slice_get-append_left, slice_get-append_right}
 use Rattle.tree_cuts.proofs.Sums.{same_is_sum, AreSameTerms}
-use Rattle.tree_facts.specs.Behind.{number_behind, proof_behind, terms_behind}
-use Rattle.tree_facts.proofs.Folds.{behind_cut, behind_split, behind_sum}
+use Rattle.tree_trim.specs.Renumbering.{number_behind, proof_behind, terms_behind}
+use Rattle.tree_trim.specs.declared.renumbering.Renumbering.TheVariants.{Behind}
+use Rattle.tree_trim.proofs.Naming.{renumbered_cut, renumbered_split, renumbered_sum}
 
 -- Numbers of rows
 
@@ -147,14 +148,14 @@ refutes_behind vars front after row _ _ (by_sum rows p terms sum is s end) steps
     let k : ℕ = length front in
     let n : ℕ = length front + length after in
     by_sum ((front ++ after) ++ row ∷ steps) (proof_behind k n p) (terms_behind k n terms) sum
-    (ap (proof_behind k n) is ∙ behind_sum k n terms)
+    (ap (proof_behind k n) is ∙ renumbered_sum (Behind k n) terms)
     (sum_behind front after row steps vars terms sum (subst (λ rows. IsSumOf vars rows terms sum) e s)) end
 refutes_behind vars front after row _ _ (by_cut rows p d terms rest sum is h s div more) steps e =
     let k : ℕ = length front in
     let n : ℕ = length front + length after in
     let new : List Form = quotient_row (unsigned_abs d) sum ∷ [] in
     by_cut ((front ++ after) ++ row ∷ steps) (proof_behind k n p) d (terms_behind k n terms) (proof_behind k n rest) sum
-    (ap (proof_behind k n) is ∙ behind_cut k n d terms rest) h
+    (ap (proof_behind k n) is ∙ renumbered_cut (Behind k n) d terms rest) h
     (sum_behind front after row steps vars terms sum (subst (λ rows. IsSumOf vars rows terms sum) e s)) div
     (subst (λ rows. Refutes vars rows (proof_behind k n rest)) (sym (append_assoc (front ++ after) (row ∷ steps) new))
     (refutes_behind vars front after row (rows ++ new) rest more (steps ++ new)
@@ -163,7 +164,7 @@ refutes_behind vars front after row _ _ (by_split rows p form other above below 
     let k : ℕ = length front in
     let n : ℕ = length front + length after in
     by_split ((front ++ after) ++ row ∷ steps) (proof_behind k n p) form other (proof_behind k n above)
-    (proof_behind k n below) (ap (proof_behind k n) is ∙ behind_split k n form above below) over neg
+    (proof_behind k n below) (ap (proof_behind k n) is ∙ renumbered_split (Behind k n) form above below) over neg
     (subst (λ rows. Refutes vars rows (proof_behind k n above))
     (sym (append_assoc (front ++ after) (row ∷ steps) (form ∷ [])))
     (refutes_behind vars front after row (rows ++ form ∷ []) above first (steps ++ form ∷ [])

@@ -3,8 +3,8 @@ use Rattle.std.specs.Prelude.{ℕ, ◌+◌, List, [], ◌∷◌, if◌then◌els
 use Rattle.int_polyhedra.specs.declared.system.Proof.{Proof}
 use Rattle.int_polyhedra.specs.declared.system.Proof.TheViews as proof
 use Rattle.tree_cuts.specs.declared.cuts.Cut.{Cut}
-use Rattle.tree_facts.specs.Behind.{proof_behind}
-use Rattle.tree_trim.specs.Proofs.{names_row, proof_without}
+use Rattle.tree_trim.specs.Proofs.{names_row}
+use Rattle.tree_trim.specs.Renumbering.{proof_behind, proof_without}
 
 -- Row k is what the Cut adds to the other n rows. A proof that names it begins with the Cut, and one that
 -- doesn't does without it.

@@ -1,4 +1,3 @@
-pub mod Behind
 pub mod Cuts
 pub mod Facts
 pub mod Sums

@@ -1,12 +1,11 @@
 ghost use Rattle.std.specs.Prelude.{◌≡◌, ◌<◌, ◌+◌, ◌^◌, [], ◌∷◌, ◌++◌, length, map, IfOk, OnOk};
 ghost use Rattle.tree_facts.specs.Cuts.{proof_by_cut, proof_by_cuts};
 
-use crate::behind::proof_behind;
 use int_polyhedra::{Proof, by_cut};
 use plain_data::Items;
 use std::alloc::{AllocError, Global};
 use tree_cuts::Cut;
-use tree_trim::{names_row, proof_without};
+use tree_trim::{Renumbering, names_row, renumbered};
 
 // The proof of a system with the row of this number, as one of the system without it, to which the Cut adds that row: the
 // Cut and then the proof, or where no step names the row, the proof alone.
@@ -20,9 +19,9 @@ fn proof_by_cut(
     ensures { IfOk result (λ own. own ≡ proof_by_cut row last cut.now proof) }
 {
     if !names_row(&proof, row) {
-        return proof_without(alloc, proof, row);
+        return renumbered(alloc, proof, Renumbering::Without(row));
     }
-    let rest = proof_behind(alloc, proof, row, last)?;
+    let rest = renumbered(alloc, proof, Renumbering::Behind(row, last))?;
     match Items::from_slice(alloc, cut.terms.as_slice()) {
         Ok(terms) => by_cut(alloc, cut.divisor, terms, rest),
         Err(error) => {

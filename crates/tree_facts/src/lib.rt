@@ -2,7 +2,6 @@
 //! without them, by those Cuts (Chvátal 1973, Pugh 1991).
 #![tactic(auto)]
 
-mod behind;
 mod context;
 mod cuts;
 mod law;

@@ -13,26 +13,27 @@ use Rattle.tree_graphs.specs.Closed.{bound_at, IsBound}
 use Rattle.tree_graphs.specs.Edges.{IsEdge}
 use Rattle.tree_graphs.specs.Rounds.{IsBack, RoundIsAsked}
 use Rattle.tree_graphs.specs.declared.closure.Bound.{Bound}
-use Rattle.tree_graphs.specs.declared.closure.Bounds.{Bounds}
 use Rattle.tree_graphs.specs.declared.cycles.Cycle.{Cycle}
 use Rattle.tree_graphs.specs.declared.edges.Edge.{Edge}
-use Rattle.tree_graphs.specs.declared.writes.Writes.{Writes}
+use Rattle.tree_graphs.specs.declared.graph.Graph.{Graph}
 use Rattle.plain_data.proofs.Lists.{All-slice_get}
 use Rattle.tree_sums.specs.Parts.{IsWithin}
 use Rattle.tree_sums.proofs.Bound.{sum_within}
 use Rattle.tree_sums.proofs.Within.{IsWithin-weaker}
 
 -- an edge from 0 to a variable, a path and an edge back
-pub round_asked : (w : Writes) (whole : List Edge) (bounds : Bounds) (back out : Edge) (bound : Bound)
-    (number back_number : ℕ) → IsBack w whole bounds back back_number
-    → slice_get whole number ≡ Some out → out.from ≡ depth_of_write w → bound_at bounds out.to back.from ≡ Some bound
-    → RoundIsAsked whole w.vars (depth_of_write w) out number bound back back_number
-round_asked w whole bounds back out bound number back_number h out_is first is = record {
+pub round_asked : (g : Graph) (back out : Edge) (bound : Bound) (number back_number : ℕ)
+    → IsBack g.writes g.edges.now back back_number → slice_get g.edges.now number ≡ Some out
+    → out.from ≡ depth_of_write g.writes → bound_at g.bounds.now out.to back.from ≡ Some bound
+    → RoundIsAsked g.edges.now g.writes.vars (depth_of_write g.writes) out number bound back back_number
+round_asked g back out bound number back_number h out_is first is = record {
   out_is = out_is;
   back_is = h.is;
-  out_edge = All-slice_get (IsEdge w.vars (depth_of_write w)) whole number out h.graph.graph.each out_is;
-  back_edge = All-slice_get (IsEdge w.vars (depth_of_write w)) whole back_number back h.graph.graph.each h.is;
-  path = subst (λ o. IfSome o (IsBound whole 64 out.to back.from)) is (h.closed.sound out.to back.from);
+  out_edge = All-slice_get (IsEdge g.writes.vars (depth_of_write g.writes)) g.edges.now number out g.graph.graph.each
+      out_is;
+  back_edge = All-slice_get (IsEdge g.writes.vars (depth_of_write g.writes)) g.edges.now back_number back
+      g.graph.graph.each h.is;
+  path = subst (λ o. IfSome o (IsBound g.edges.now 64 out.to back.from)) is (g.closed.sound out.to back.from);
   first = first;
   last = h.last;
 }

@@ -18,7 +18,8 @@ use Rattle.affine_core.specs.declared.form.Form.{Form}
 use Rattle.affine_core.specs.Affine.{constant_form, form_product, form_sum}
 use Rattle.affine_core.proofs.Linear.{length-sums}
 use Rattle.int_polyhedra.proofs.Variables.{length_zeros}
-use Rattle.tree_graphs.specs.Asked.{depth_of_write, AreCells, IsCell}
+use Rattle.tree_graphs.specs.Asked.{depth_of_write}
+use Rattle.tree_graphs.specs.Problems.{AreCells, IsCell}
 use Rattle.tree_graphs.specs.Class.{is_difference}
 use Rattle.tree_graphs.specs.Edges.{domain_edge_of, edge_parts, node_of, AreEdges, AddsEdges, IsEdge, IsKept}
 use Rattle.tree_graphs.specs.declared.edges.Edge.{Edge}

@@ -166,10 +166,9 @@ pub checked_in : (n : Nest) (r w : Occurrence) (p : ℕ) → named_write n r w.n
 checked_in n r w p named c tree (at_test c' tree' form above below is over within upper lower) =
     test_in c tree form above below is over (checked_in n r w p named (test_yes c form) above upper)
     (checked_in n r w p named (test_no c form) below lower)
-checked_in n r w p named c tree (at_writer c' tree' o place proofs is there deep over within refuted sums) =
-    let k : IsCheckedPoint r w p c o.write.number place proofs =
-    checked_point r w p c tree o.write.number place proofs
-    (at_writer c tree o place proofs is there deep over within refuted sums) is in
+checked_in n r w p named c tree (at_writer c' tree' number place proofs is point) =
+    let k : IsCheckedPoint r w p c number place proofs =
+    checked_point r w p c tree number place proofs (at_writer c tree number place proofs is point) is in
     point_in n r w p named c tree place proofs (is ∙ ap (λ s. Writer s place proofs) k.number) k.deep k.over k.refuted
 checked_in n r w p named c tree (at_zero c' tree' proofs is refuted sums) =
     none_in n r w p named c tree proofs is refuted

@@ -47,10 +47,10 @@ module _ {which : Which} {pairs : List ReadAndWrite} where
         below = subst (λ f. IsCheckedForAll which pairs (test_no c f) b) forms
             (subst (IsCheckedForAll which pairs (test_no c f)) below second);
       }
-  checked_test _ _ form a b (at_writer c tree o place proofs is there deep over within refuted sums) e =
-      absurd (let k : open_.Writer o.write.number place proofs ≡ open_.Test form a b =
-      node_unique tree (open_.Writer o.write.number place proofs) (open_.Test form a b)
-      (node-Writer tree o.write.number place proofs is) (node-Test tree form a b e) in cc)
+  checked_test _ _ form a b (at_writer c tree s place proofs is point) e =
+      absurd (let k : open_.Writer s place proofs ≡ open_.Test form a b =
+      node_unique tree (open_.Writer s place proofs) (open_.Test form a b)
+      (node-Writer tree s place proofs is) (node-Test tree form a b e) in cc)
   checked_test _ _ form a b (at_zero c tree proofs is refuted sums) e =
       absurd (let k : open_.Zero proofs ≡ open_.Test form a b = node_unique tree (open_.Zero proofs) (open_.Test form a b)
       (node-Zero tree proofs is) (node-Test tree form a b e) in cc)
@@ -63,24 +63,16 @@ module _ {which : Which} {pairs : List ReadAndWrite} where
   point_for _ _ s place proofs (at_test c tree f x y is over within first second) e =
       absurd (let k : open_.Test f x y ≡ open_.Writer s place proofs = node_unique tree (open_.Test f x y)
       (open_.Writer s place proofs) (node-Test tree f x y is) (node-Writer tree s place proofs e) in cc)
-  point_for _ _ s place proofs (at_writer c tree o place' proofs' is there deep over within refuted sums) e =
-      let k : open_.Writer o.write.number place' proofs' ≡ open_.Writer s place proofs =
-      node_unique tree (open_.Writer o.write.number place' proofs') (open_.Writer s place proofs)
-      (node-Writer tree o.write.number place' proofs' is) (node-Writer tree s place proofs e) in
-      let number : o.write.number ≡ s = cc in
+  point_for _ _ s place proofs (at_writer c tree s' place' proofs' is point) e =
+      let k : open_.Writer s' place' proofs' ≡ open_.Writer s place proofs =
+      node_unique tree (open_.Writer s' place' proofs') (open_.Writer s place proofs)
+      (node-Writer tree s' place' proofs' is) (node-Writer tree s place proofs e) in
+      let number : s' ≡ s = cc in
       let forms : place' ≡ place = cc in
       let own : proofs' ≡ proofs = cc in
-      record {
-        pair = o;
-        among = there;
-        number_is = sym number;
-        deep = ap length (sym forms) ∙ deep;
-        over = subst (HaveVariables c.vars) forms over;
-        within = subst (All (IsWithin (2 ^ 48))) forms within;
-        refuted = subst (AreRefuted (place_systems which pairs o place c)) own
-            (subst (λ place. AreRefuted (place_systems which pairs o place c) proofs') forms refuted);
-        sums = subst (All IsSum) own sums;
-      }
+      subst (IsPointFor which pairs c s place) own
+      (subst (λ place. IsPointFor which pairs c s place proofs') forms
+      (subst (λ s. IsPointFor which pairs c s place' proofs') number point))
   point_for _ _ s place proofs (at_zero c tree own is refuted sums) e =
       absurd (let k : open_.Zero own ≡ open_.Writer s place proofs = node_unique tree (open_.Zero own)
       (open_.Writer s place proofs) (node-Zero tree own is) (node-Writer tree s place proofs e) in cc)
@@ -93,10 +85,10 @@ module _ {which : Which} {pairs : List ReadAndWrite} where
   checked_zero _ _ proofs (at_test c tree f x y is over within first second) e =
       absurd (let k : open_.Test f x y ≡ open_.Zero proofs = node_unique tree (open_.Test f x y) (open_.Zero proofs)
       (node-Test tree f x y is) (node-Zero tree proofs e) in cc)
-  checked_zero _ _ proofs (at_writer c tree o place own is there deep over within refuted sums) e =
-      absurd (let k : open_.Writer o.write.number place own ≡ open_.Zero proofs =
-      node_unique tree (open_.Writer o.write.number place own) (open_.Zero proofs)
-      (node-Writer tree o.write.number place own is) (node-Zero tree proofs e) in cc)
+  checked_zero _ _ proofs (at_writer c tree s place own is point) e =
+      absurd (let k : open_.Writer s place own ≡ open_.Zero proofs =
+      node_unique tree (open_.Writer s place own) (open_.Zero proofs)
+      (node-Writer tree s place own is) (node-Zero tree proofs e) in cc)
   checked_zero _ _ proofs (at_zero c tree own is refuted sums) e =
       let k : open_.Zero own ≡ open_.Zero proofs =
       node_unique tree (open_.Zero own) (open_.Zero proofs) (node-Zero tree own is) (node-Zero tree proofs e) in
@@ -111,10 +103,10 @@ module _ {which : Which} {pairs : List ReadAndWrite} where
   checked_dead _ _ proof (at_test c tree f x y is over within first second) e =
       absurd (let k : open_.Test f x y ≡ open_.Dead proof = node_unique tree (open_.Test f x y) (open_.Dead proof)
       (node-Test tree f x y is) (node-Dead tree proof e) in cc)
-  checked_dead _ _ proof (at_writer c tree o place own is there deep over within refuted sums) e =
-      absurd (let k : open_.Writer o.write.number place own ≡ open_.Dead proof =
-      node_unique tree (open_.Writer o.write.number place own) (open_.Dead proof)
-      (node-Writer tree o.write.number place own is) (node-Dead tree proof e) in cc)
+  checked_dead _ _ proof (at_writer c tree s place own is point) e =
+      absurd (let k : open_.Writer s place own ≡ open_.Dead proof =
+      node_unique tree (open_.Writer s place own) (open_.Dead proof)
+      (node-Writer tree s place own is) (node-Dead tree proof e) in cc)
   checked_dead _ _ proof (at_zero c tree own is refuted sums) e =
       absurd (let k : open_.Zero own ≡ open_.Dead proof = node_unique tree (open_.Zero own) (open_.Dead proof)
       (node-Zero tree own is) (node-Dead tree proof e) in cc)

@@ -22,13 +22,15 @@ use Rattle.sanlp.specs.declared.nest.Nest.{Nest}
 use Rattle.sanlp.specs.declared.nest.Statement.{Statement}
 use Rattle.sanlp.specs.Order.{common_loops}
 use Rattle.sanlp.specs.WellFormed.{access_fits, form_fits, is_moderate, statement_fits}
-use Rattle.tree_graphs.specs.Asked.{read_of, write_of, AreAsked, AreCells, IsAsked, IsProblem}
+use Rattle.tree_graphs.specs.Asked.{read_of, write_of, AreAsked}
+use Rattle.tree_graphs.specs.Problems.{read_with, write_with, AreCells, IsProblem}
 use Rattle.tree_graphs.specs.declared.writes.Writes.{Writes}
 use Rattle.tree_graphs.specs.Class.{is_difference, is_shift}
 use Rattle.tree_graphs.specs.Level.{common_of, HasLevel}
 use Rattle.tree_sums.specs.Parts.{IsWithin}
 use Rattle.tree_sums.proofs.Within.{IsWithin-weaker}
 use Rattle.sanlp.proofs.LoopBounds.{bounded_above}
+use Rattle.source_tree.specs.declared.reference.Reference.{Reference}
 use Rattle.source_tree.specs.Systems.{Occurrence, named_write, write_to}
 
 -- a form of a nest: so many variables, and numbers within 2^32
@@ -216,7 +218,7 @@ problem_of n r w p a =
       few_rows = f.few_rows;
       rows = f.rows;
       differences = f.row_kinds;
-      bounded = λ loop lt. bounded_above n w.number w.statement loop f.named.is lt;
+      bounded = λ loop lt. ∣ bounded_above n w.number w.statement loop f.named.is lt ∣₁;
       few_subscripts = f.few_subscripts;
       cells = cells_are (length r.statement.loops) (length w.statement.loops) w.access.subscripts r.access.subscripts
           f.even f.kinds f.writes f.reads;
@@ -266,5 +268,22 @@ known_of vars r w p a =
       level = elim a.level [ inl lt ↦ omega arith | inr at ↦ (let e : p ≡ common_of w r = at.0 in omega (arith, e)) ];
     }
 
-pub asked_fits : (w : Writes) → IsAsked w → IsKnown w.vars (read_of w) (write_of w) w.level
-asked_fits w a = known_of w.vars (read_of w) (write_of w) w.level a.problem
+pub writes_fit : (w : Writes) → IsKnown w.vars (read_of w) (write_of w) w.level
+writes_fit w = known_of w.vars (read_of w) (write_of w) w.level w.problem
+
+-- no statement has more than 6 loops
+pub few_common : (w : Writes) → w.common ≤ 6
+few_common w = let f = writes_fit w in omega (arith, f.common_loops, f.few_loops, w.loops)
+
+pub few_levels : (w : Writes) → w.level ≤ 6
+few_levels w = let f = writes_fit w in omega (arith, f.level, f.common_loops, f.few_loops)
+
+-- a problem stays one where its rows and subscripts are copied
+pub same_problem : (vars p : ℕ) (read write : Reference) (reads rows writes own_reads own_rows own_writes : List Form)
+    → reads ≡ own_reads → rows ≡ own_rows → writes ≡ own_writes
+    → IsProblem vars (read_with read own_reads) (write_with write own_rows own_writes) p
+    → IsProblem vars (read_with read reads) (write_with write rows writes) p
+same_problem vars p read write reads rows writes own_reads own_rows own_writes e f g h =
+    subst (λ reads. IsProblem vars (read_with read reads) (write_with write rows writes) p) (sym e)
+    (subst (λ rows. IsProblem vars (read_with read own_reads) (write_with write rows writes) p) (sym f)
+    (subst (λ writes. IsProblem vars (read_with read own_reads) (write_with write own_rows writes) p) (sym g) h))

@@ -15,7 +15,7 @@ use Rattle.std.proofs.lemmas.List.Elements.{All-nil, All-cons, All-head, All-tai
 use Rattle.std.proofs.lemmas.Option.{same_Some, slice_get-map, option_and_then_some}
 use Rattle.affine_core.specs.declared.form.Form.{Form}
 use Rattle.int_polyhedra.specs.Systems.{all_over, AreOver}
-use Rattle.tree_graphs.specs.Asked.{AreCells, IsCell}
+use Rattle.tree_graphs.specs.Problems.{AreCells, IsCell}
 use Rattle.tree_graphs.specs.Edges.{AreEdges}
 use Rattle.tree_graphs.specs.Paths.{edge_part}
 use Rattle.tree_graphs.specs.declared.edges.Edge.{Edge}

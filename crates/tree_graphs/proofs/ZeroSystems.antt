@@ -14,7 +14,7 @@ use Rattle.int_polyhedra.specs.declared.system.Proof.TheVariants.{Sum}
 use Rattle.int_polyhedra.specs.declared.system.Term.{Term}
 use Rattle.int_polyhedra.specs.Systems.{AreOver}
 use Rattle.tree_graphs.specs.Cycles.{IsContradiction}
-use Rattle.tree_graphs.specs.Asked.{IsProblem}
+use Rattle.tree_graphs.specs.Problems.{IsProblem}
 use Rattle.tree_graphs.specs.Edges.{write_rows, AreEdges, AreEdgesOf, AreLevelRows}
 use Rattle.tree_graphs.specs.Level.{common_of, HasLevel}
 use Rattle.tree_graphs.specs.Paths.{terms_from}

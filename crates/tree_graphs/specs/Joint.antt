@@ -52,6 +52,19 @@ place_systems which pairs o place c =
 abbrev pub IsSum : Proof → Type 0
 IsSum proof = (ts : List Term) × (proof ≡ Sum ts)
 
+-- The number is that of one of the writes, the place has a form with small numbers for each of its loops, and the
+-- proofs are Sums that refute its systems, as at a Writer leaf of a tree that is checked.
+pub record IsPointFor (which : Which) (pairs : List ReadAndWrite) (c : Context) (number : ℕ)
+    (place : List Form) (proofs : List Proof) : Type 0 where
+  pub pair : ReadAndWrite
+  pub among : Contains pairs pair
+  pub number_is : number ≡ pair.write.number
+  pub deep : length place ≡ length pair.write.statement.loops
+  pub over : HaveVariables c.vars place
+  pub within : All (IsWithin (2 ^ 48)) place
+  pub refuted : AreRefuted (place_systems which pairs pair place c) proofs
+  pub sums : All IsSum proofs
+
 -- A tree of Tests in a context is checked for these reads and writes at the levels that are chosen: its
 -- forms have as many variables as there are and small numbers, a Writer leaf names the statement of one of
 -- the writes and has a form with small numbers for each of its loops, and each leaf's proofs refute its
@@ -64,11 +77,8 @@ pub data IsCheckedForAll (which : Which) (pairs : List ReadAndWrite) : Context �
       → IsCheckedForAll which pairs (test_yes c form) above
       → IsCheckedForAll which pairs (test_no c form) below
       → IsCheckedForAll which pairs c tree
-  at_writer : (c : Context) (tree : Tree) (o : ReadAndWrite) (place : List Form)
-      (proofs : List Proof) → tree ≡ Writer o.write.number place proofs → Contains pairs o
-      → length place ≡ length o.write.statement.loops → HaveVariables c.vars place
-      → All (IsWithin (2 ^ 48)) place
-      → AreRefuted (place_systems which pairs o place c) proofs → All IsSum proofs
+  at_writer : (c : Context) (tree : Tree) (number : ℕ) (place : List Form) (proofs : List Proof)
+      → tree ≡ Writer number place proofs → IsPointFor which pairs c number place proofs
       → IsCheckedForAll which pairs c tree
   at_zero : (c : Context) (tree : Tree) (proofs : List Proof) → tree ≡ Zero proofs
       → AreRefuted (write_systems_of which pairs c no_orders) proofs → All IsSum proofs
@@ -81,18 +91,6 @@ pub data IsCheckedForAll (which : Which) (pairs : List ReadAndWrite) : Context �
 abbrev pub IsTreeFor : List ReadAndWrite → System → Tree → Type 0
 IsTreeFor pairs context tree =
     (c : Context) → IsMadeAs context c → IsCheckedForAll every pairs c tree
-
--- the number, the place and the proofs are those of a Writer leaf that is checked for them
-pub record IsPointFor (which : Which) (pairs : List ReadAndWrite) (c : Context) (number : ℕ)
-    (place : List Form) (proofs : List Proof) : Type 0 where
-  pub pair : ReadAndWrite
-  pub among : Contains pairs pair
-  pub number_is : number ≡ pair.write.number
-  pub deep : length place ≡ length pair.write.statement.loops
-  pub over : HaveVariables c.vars place
-  pub within : All (IsWithin (2 ^ 48)) place
-  pub refuted : AreRefuted (place_systems which pairs pair place c) proofs
-  pub sums : All IsSum proofs
 
 -- One write at level p before a read
 

@@ -1,6 +1,8 @@
 pub mod Class
 pub mod Level
 pub mod Simple
+pub mod Problems
+pub mod OneProof
 pub mod Asked
 pub mod Contexts
 pub mod Joint
@@ -11,3 +13,4 @@ pub mod Closed
 pub mod Facts
 pub mod Rounds
 pub mod Cycles
+pub mod OneGraph

@@ -1,6 +1,6 @@
 -- The graph of the rows on a writer's point, and cycles through 0.
 use Rattle.std.specs.Prelude.{◌≡◌, ℕ, List, length, map, take, Some, slice_get}
-use Rattle.tree_graphs.specs.Asked.{depth_of_write, read_of, write_of, IsAsked}
+use Rattle.tree_graphs.specs.Asked.{depth_of_write, read_of, write_of}
 use Rattle.tree_graphs.specs.Closed.{AreClosed, IsBound}
 use Rattle.tree_graphs.specs.Edges.{domain_edge_of, AreEdgesOf, IsEdge, IsGraph}
 use Rattle.tree_graphs.specs.declared.closure.Bound.{Bound}
@@ -10,7 +10,6 @@ use Rattle.tree_graphs.specs.declared.writes.Writes.{Writes}
 
 -- the edges of the rows on the writer's point
 pub record IsGraphOf (w : Writes) (edges : List Edge) : Type 0 where
-  pub asked : IsAsked w
   pub edges_are : AreEdgesOf (read_of w) (write_of w) w.level edges
   pub graph : IsGraph w.vars (depth_of_write w) edges
   pub starts : take (length w.rows.now) edges
@@ -31,10 +30,7 @@ pub record RoundIsAsked (edges : List Edge) (vars depth : ℕ) (out : Edge) (out
   pub first : out.from ≡ depth
   pub last : back.to ≡ depth
 
--- an edge back to 0 of the graph
-pub record IsBack (w : Writes) (edges : List Edge) (bounds : Bounds) (back : Edge)
-    (number : ℕ) : Type 0 where
-  pub graph : IsGraphOf w edges
-  pub closed : AreClosedOf w edges bounds
+-- an edge back to 0, of this number
+pub record IsBack (w : Writes) (edges : List Edge) (back : Edge) (number : ℕ) : Type 0 where
   pub is : slice_get edges number ≡ Some back
   pub last : back.to ≡ depth_of_write w

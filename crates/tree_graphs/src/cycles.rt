@@ -1,25 +1,18 @@
 ghost use Rattle.std.specs.Prelude.{◌≡◌, ◌≤◌, ◌+◌, ◌*◌, [], ◌∷◌, ◌++◌, ℕ, List, length, drop, slice_get, Some, All, IfOk, OnOk};
 ghost use Rattle.tree_graphs.specs.declared.edges.Edge.{Edge as EdgeOf};
 ghost use Rattle.tree_graphs.specs.Cycles.{IsCycle};
-ghost use Rattle.tree_graphs.specs.Rounds.{AreClosedOf, IsBack, IsGraphOf, RoundIsAsked};
+ghost use Rattle.tree_graphs.specs.Rounds.{IsBack, RoundIsAsked};
 
-use crate::closure::{Bound, Bounds, form_beyond};
+use crate::closure::{Bound, form_beyond};
 use crate::edges::Edge;
 use crate::forms::sum;
+use crate::graph::Graph;
 use crate::rows::copied_rows;
 use crate::terms::{append, once};
-use crate::writes::Writes;
 use affine_core::{Form, Row};
 use int_polyhedra::{System, Term};
 use plain_data::Items;
-use std::alloc::AllocError;
-
-/// The edges of the rows on a writer's point, and the least sums of those between its loop variables.
-#[derive(Clone, Copy)]
-pub struct Graph<'a> {
-    pub edges: &'a [Edge],
-    pub bounds: &'a Bounds,
-}
+use std::alloc::{AllocError, Global};
 
 /// A form over the variables of a context and rows on the writer's point whose sum it is.
 #[derive(Drop)]
@@ -43,7 +36,7 @@ pub fn with_row(context: &System, row: Row) -> Result<System, AllocError>
 
 // The edge from 0 to a variable of this number, a path, and the edge of the other number back to 0.
 fn round(
-    w: &Writes,
+    alloc: Global,
     out: &Edge,
     out_number: u32,
     bound: &Bound,
@@ -57,7 +50,7 @@ fn round(
         → RoundIsAsked edges vars depth out.now out_number bound.now back.now back_number
         → IsCycle vars edges cycle) }
 {
-    let mut terms = Items::new(w.alloc);
+    let mut terms = Items::new(alloc);
     terms.push(Term {
         row: out_number,
         times: 1,
@@ -109,26 +102,26 @@ fn push_least(cycles: &mut Items<Cycle>, cycle: Cycle) -> Result<(), AllocError>
 // Adds the cycle by an edge from 0, if it is one to a variable, a path and an edge back to 0.
 fn push_round(
     cycles: &mut Items<Cycle>,
-    w: &Writes,
-    bounds: &Bounds,
+    graph: &Graph,
     out: &Edge,
     number: u32,
     back: &Edge,
     back_number: u32,
 ) -> Result<(), AllocError>
-    requires { (whole : List EdgeOf) × IsBack w.now whole bounds.now back.now back_number
-        × (slice_get whole number ≡ Some out.now) }
-    ensures each { OnOk result ((whole : List EdgeOf)
-        → IsBack w.now whole bounds.now back.now back_number → slice_get whole number ≡ Some out.now
-        → All (IsCycle w.now.vars whole) cycles.old
-        → All (IsCycle w.now.vars whole) cycles.new) }
+    requires back { IsBack graph.now.writes graph.now.edges.now back.now back_number }
+    requires out { slice_get graph.now.edges.now number ≡ Some out.now }
+    ensures each { OnOk result (All (IsCycle graph.now.writes.vars graph.now.edges.now) cycles.old
+        → All (IsCycle graph.now.writes.vars graph.now.edges.now) cycles.new) }
     ensures count { OnOk result (length cycles.new ≤ length cycles.old + 1) }
 {
-    if out.from != w.depth() {
+    if out.from != graph.writes.depth() {
         return Ok(());
     }
-    match bounds.at(out.to, back.from) {
-        Some(bound) => push_least(cycles, round(w, out, number, bound, back, back_number)?),
+    match graph.bounds.at(out.to, back.from) {
+        Some(bound) => {
+            let alloc = graph.writes.alloc;
+            push_least(cycles, round(alloc, out, number, bound, back, back_number)?)
+        }
         None => Ok(()),
     }
 }
@@ -136,84 +129,74 @@ fn push_round(
 // Adds the cycles by an edge back to 0 and each of these edges from 0, of which the first has this number.
 fn push_rounds(
     cycles: &mut Items<Cycle>,
-    w: &Writes,
-    bounds: &Bounds,
+    graph: &Graph,
     outs: &[Edge],
     number: u32,
     back: &Edge,
     back_number: u32,
 ) -> Result<(), AllocError>
-    requires { (whole : List EdgeOf) × IsBack w.now whole bounds.now back.now back_number
-        × (drop number whole ≡ outs.now) × (number + length outs.now ≤ 56) }
-    ensures each { OnOk result ((whole : List EdgeOf)
-        → IsBack w.now whole bounds.now back.now back_number → drop number whole ≡ outs.now
-        → All (IsCycle w.now.vars whole) cycles.old
-        → All (IsCycle w.now.vars whole) cycles.new) }
+    requires back { IsBack graph.now.writes graph.now.edges.now back.now back_number }
+    requires outs { drop number graph.now.edges.now ≡ outs.now }
+    requires count { number + length outs.now ≤ 56 }
+    ensures each { OnOk result (All (IsCycle graph.now.writes.vars graph.now.edges.now) cycles.old
+        → All (IsCycle graph.now.writes.vars graph.now.edges.now) cycles.new) }
     ensures count { OnOk result (length cycles.new ≤ length cycles.old + length outs.now) }
 {
     let Some((out, outs)) = outs.split_first() else {
         return Ok(());
     };
-    push_round(cycles, w, bounds, out, number, back, back_number)?;
-    push_rounds(cycles, w, bounds, outs, number + 1, back, back_number)
+    push_round(cycles, graph, out, number, back, back_number)?;
+    push_rounds(cycles, graph, outs, number + 1, back, back_number)
 }
 
 // Adds the cycles by this edge, if it is one back to 0.
 fn push_back(
     cycles: &mut Items<Cycle>,
-    w: &Writes,
     graph: &Graph,
     edge: &Edge,
     number: u32,
 ) -> Result<(), AllocError>
-    requires graph { IsGraphOf w.now graph.now.edges.now }
-    requires closed { AreClosedOf w.now graph.now.edges.now graph.now.bounds.now }
-    requires is { slice_get graph.now.edges.now number ≡ Some edge.now }
-    ensures each { OnOk result (All (IsCycle w.now.vars graph.now.edges.now) cycles.old
-        → All (IsCycle w.now.vars graph.now.edges.now) cycles.new) }
+    requires { slice_get graph.now.edges.now number ≡ Some edge.now }
+    ensures each { OnOk result (All (IsCycle graph.now.writes.vars graph.now.edges.now) cycles.old
+        → All (IsCycle graph.now.writes.vars graph.now.edges.now) cycles.new) }
     ensures count { OnOk result (length cycles.new ≤ length cycles.old + 57) }
 {
-    if edge.to != w.depth() {
+    if edge.to != graph.writes.depth() {
         return Ok(());
     }
-    if edge.from == w.depth() {
-        let terms = once(w.alloc, number)?;
+    if edge.from == graph.writes.depth() {
+        let terms = once(graph.writes.alloc, number)?;
         let form = edge.weight.copy();
         return push_least(cycles, Cycle { form, terms });
     }
-    push_rounds(cycles, w, graph.bounds, graph.edges, 0, edge, number)
+    push_rounds(cycles, graph, graph.edges, 0, edge, number)
 }
 
 fn push_cycles(
     cycles: &mut Items<Cycle>,
-    w: &Writes,
     graph: &Graph,
     edges: &[Edge],
     number: u32,
 ) -> Result<(), AllocError>
-    requires graph { IsGraphOf w.now graph.now.edges.now }
-    requires closed { AreClosedOf w.now graph.now.edges.now graph.now.bounds.now }
     requires rest { drop number graph.now.edges.now ≡ edges.now }
     requires count { number + length edges.now ≤ 56 }
-    ensures each { OnOk result (All (IsCycle w.now.vars graph.now.edges.now) cycles.old
-        → All (IsCycle w.now.vars graph.now.edges.now) cycles.new) }
+    ensures each { OnOk result (All (IsCycle graph.now.writes.vars graph.now.edges.now) cycles.old
+        → All (IsCycle graph.now.writes.vars graph.now.edges.now) cycles.new) }
     ensures count { OnOk result (length cycles.new ≤ length cycles.old + 57 * length edges.now) }
 {
     let Some((edge, edges)) = edges.split_first() else {
         return Ok(());
     };
-    push_back(cycles, w, graph, edge, number)?;
-    push_cycles(cycles, w, graph, edges, number + 1)
+    push_back(cycles, graph, edge, number)?;
+    push_cycles(cycles, graph, edges, number + 1)
 }
 
 /// The cycles through 0, the least one of those with the same coefficients. A writer's point wants each to be at least 0.
-pub fn cycles_of(w: &Writes, graph: &Graph) -> Result<Items<Cycle>, AllocError>
-    requires graph { IsGraphOf w.now graph.now.edges.now }
-    requires closed { AreClosedOf w.now graph.now.edges.now graph.now.bounds.now }
-    ensures each { IfOk result (All (IsCycle w.now.vars graph.now.edges.now)) }
+pub fn cycles_of(graph: &Graph) -> Result<Items<Cycle>, AllocError>
+    ensures each { IfOk result (All (IsCycle graph.now.writes.vars graph.now.edges.now)) }
     ensures count { IfOk result (λ cycles. length cycles ≤ 3192) }
 {
-    let mut cycles = Items::new(w.alloc);
-    push_cycles(&mut cycles, w, graph, graph.edges, 0)?;
+    let mut cycles = Items::new(graph.writes.alloc);
+    push_cycles(&mut cycles, graph, graph.edges, 0)?;
     Ok(cycles)
 }

@@ -1,7 +1,8 @@
-ghost use Rattle.std.specs.Prelude.{◌≡◌, ◌≤◌, ◌+◌, ◌*◌, ◌++◌, pos, negsuc, length, map, take, IsTrue, IfOk, OnOk};
+ghost use Rattle.std.specs.Prelude.{◌≡◌, ◌≤◌, ◌+◌, ◌*◌, ◌++◌, length, map, take, IsTrue, IfOk, OnOk};
 ghost use Rattle.std.specs.List.{list_all};
 ghost use Rattle.affine_core.specs.Affine.{constant_form};
-ghost use Rattle.tree_graphs.specs.Asked.{depth_of_write, read_of, write_of, AreCells, IsAsked, IsCell};
+ghost use Rattle.tree_graphs.specs.Asked.{depth_of_write, read_of, write_of};
+ghost use Rattle.tree_graphs.specs.Problems.{AreCells, IsCell};
 ghost use Rattle.tree_graphs.specs.Class.{is_difference};
 ghost use Rattle.tree_graphs.specs.Edges.{domain_edge_of, node_of, AddsEdges, AddsOrder, AreEdgesOf, IsGraph, IsKept};
 ghost use Rattle.sanlp.specs.WellFormed.{form_fits};
@@ -50,7 +51,6 @@ fn domain_edge(alloc: Global, vars: usize, row: &Row) -> Edge
 
 // Adds the edges of domain rows.
 fn push_domain(edges: &mut Items<Edge>, w: &Writes, rows: &[Row]) -> Result<(), AllocError>
-    requires asked { IsAsked w.now }
     requires rows { IsTrue (list_all is_difference rows.now) }
     requires fit { IsTrue (list_all (form_fits (depth_of_write w.now)) rows.now) }
     ensures rows { OnOk result
@@ -81,8 +81,7 @@ fn push_cell(
     write: &Form,
     read: &Form,
 ) -> Result<(), AllocError>
-    requires asked { IsAsked w.now }
-    requires cell { IsCell w.now.vars (depth_of_write w.now) write.now read.now }
+    requires { IsCell w.now.vars (depth_of_write w.now) write.now read.now }
     ensures rows { OnOk result
         (AddsEdges w.now (λ place. equal_rows (at_place write.now place) (Take read.now)) edges.old
         edges.new) }
@@ -110,8 +109,7 @@ fn push_cells(
     writes: &[Form],
     reads: &[Form],
 ) -> Result<(), AllocError>
-    requires asked { IsAsked w.now }
-    requires cells { AreCells w.now.vars (depth_of_write w.now) writes.now reads.now }
+    requires { AreCells w.now.vars (depth_of_write w.now) writes.now reads.now }
     ensures rows { OnOk result
         (AddsEdges w.now (λ place. cell_rows writes.now reads.now place) edges.old edges.new) }
     ensures count { OnOk result (length edges.new ≤ length edges.old + 2 * length writes.now) }
@@ -127,8 +125,7 @@ fn push_cells(
 
 // Adds the edges of the order rows from this loop on: `j - x` and `x - j` above the level, and `x - j - 1` at it.
 fn push_order(edges: &mut Items<Edge>, w: &Writes, from: usize) -> Result<(), AllocError>
-    requires asked { IsAsked w.now }
-    requires from { from ≤ w.now.level }
+    requires { from ≤ w.now.level }
     ensures rows { OnOk result (AddsOrder w.now from edges.old edges.new) }
     ensures count { OnOk result (length edges.new + 2 * from ≤ length edges.old + 12) }
     ensures kept { OnOk result (IsKept edges.old edges.new) }
@@ -160,7 +157,6 @@ fn push_order(edges: &mut Items<Edge>, w: &Writes, from: usize) -> Result<(), Al
 /// The edges of the rows on a writer's point, in the order of these rows: its domain, the read's cell, and the order before
 /// the read.
 pub fn edges_of(w: &Writes) -> Result<Items<Edge>, AllocError>
-    requires { IsAsked w.now }
     ensures rows { IfOk result (AreEdgesOf (read_of w.now) (write_of w.now) w.now.level) }
     ensures graph { IfOk result (IsGraph w.now.vars (depth_of_write w.now)) }
     ensures domain { IfOk result (λ edges. take (length w.now.rows.now) edges

@@ -3,9 +3,10 @@ ghost use Rattle.std.specs.Bool.{OnTrue};
 ghost use Rattle.int_polyhedra.specs.Rules.{ProvesEntailment};
 ghost use Rattle.int_polyhedra.specs.declared.system.Proof.TheVariants.{Sum};
 ghost use Rattle.affine_core.specs.declared.form.Form.{Form as FormOf};
-ghost use Rattle.tree_graphs.specs.Facts.{form_parts, AreLight, IsContext, IsFact, IsSignOf, NoRowTells, RowTells};
+ghost use Rattle.tree_graphs.specs.Facts.{form_parts, AreLight, IsFact, IsSignOf, NoRowTells, RowTells};
 ghost use Rattle.tree_sums.specs.Shown.{with_last};
 
+use crate::context::Context;
 use crate::terms::{once, sum_with_row};
 use affine_core::{Form, Row};
 use int_polyhedra::{System, Term, entails};
@@ -440,16 +441,16 @@ fn are_light(terms: &[Term], rows: usize, most: i128) -> bool
 }
 
 // Whether the sum of the rows is the form less a number that is not below 0.
-fn are_confirmed(context: &System, form: &Form, terms: &[Term]) -> Result<bool, AllocError>
-    requires context { IsContext context.now }
-    requires over { length form.now.coefs ≡ context.now.vars }
+fn are_confirmed(context: &Context, form: &Form, terms: &[Term]) -> Result<bool, AllocError>
+    requires { length form.now.coefs ≡ context.now.system.now.vars }
     ensures { IfOk result
-        (λ confirmed. OnTrue confirmed (ProvesEntailment context.now.vars context.now.rows form.now
-        (Sum (with_last context.now.rows terms.now)))) }
+        (λ confirmed. OnTrue confirmed
+        (ProvesEntailment context.now.system.now.vars context.now.system.now.rows form.now
+        (Sum (with_last context.now.system.now.rows terms.now)))) }
 {
-    let here = context.rows.len() as u32;
-    let proof = sum_with_row(context.rows.allocator(), terms, here)?;
-    let confirmed = entails(context, form, &proof).is_ok();
+    let here = context.system.rows.len() as u32;
+    let proof = sum_with_row(context.system.rows.allocator(), terms, here)?;
+    let confirmed = entails(context.system, form, &proof).is_ok();
     drop(proof);
     Ok(confirmed)
 }
@@ -457,18 +458,18 @@ fn are_confirmed(context: &System, form: &Form, terms: &[Term]) -> Result<bool, 
 // Terms that were searched for and then confirmed. `None` says nothing.
 #[tactic(auto, using(crate::proofs::FactLemmas::fact_is))]
 fn by_search(
-    context: &System,
+    context: &Context,
     search: &mut Search,
     form: &Form,
 ) -> Result<Option<Items<Term>>, AllocError>
-    requires context { IsContext context.now }
-    requires over { length form.now.coefs ≡ context.now.vars }
-    ensures { IfOk result (λ found. IfSome found (IsFact context.now 65536 (form_parts form.now))) }
+    requires { length form.now.coefs ≡ context.now.system.now.vars }
+    ensures { IfOk result
+        (λ found. IfSome found (IsFact context.now.system.now 65536 (form_parts form.now))) }
 {
-    let Some(terms) = candidate_rows(context, search, form)? else {
+    let Some(terms) = candidate_rows(context.system, search, form)? else {
         return Ok(None);
     };
-    if !are_light(terms.as_slice(), context.rows.len(), MOST) {
+    if !are_light(terms.as_slice(), context.system.rows.len(), MOST) {
         return Ok(None);
     }
     if !are_confirmed(context, form, terms.as_slice())? {
@@ -482,31 +483,31 @@ fn by_search(
 /// which terms come. `None` says that no row by itself is such, and nothing else. Their multipliers add up to 65,536 at
 /// most. The search goes on from one form to the next of one context; by that of another context fewer forms may be known.
 pub fn known_by(
-    context: &System,
+    context: &Context,
     search: &mut Search,
     form: &Form,
 ) -> Result<Option<Items<Term>>, AllocError>
-    requires context { IsContext context.now }
-    requires over { length form.now.coefs ≡ context.now.vars }
+    requires { length form.now.coefs ≡ context.now.system.now.vars }
     ensures some { IfOk result
-        (λ found. IfSome found (IsFact context.now 65536 (form_parts form.now))) }
-    ensures none { IfOk result (λ found. IfNone found (NoRowTells context.now.rows form.now)) }
+        (λ found. IfSome found (IsFact context.now.system.now 65536 (form_parts form.now))) }
+    ensures none { IfOk result (λ found. IfNone found
+        (NoRowTells context.now.system.now.rows form.now)) }
 {
-    match row_with(context.rows.as_slice(), 0, form) {
-        Some(number) => Ok(Some(once(context.rows.allocator(), number)?)),
+    match row_with(context.system.rows.as_slice(), 0, form) {
+        Some(number) => Ok(Some(once(context.system.rows.allocator(), number)?)),
         None => by_search(context, search, form),
     }
 }
 
 /// The same, of one form.
-pub fn known(context: &System, form: &Form) -> Result<Option<Items<Term>>, AllocError>
-    requires context { IsContext context.now }
-    requires over { length form.now.coefs ≡ context.now.vars }
+pub fn known(context: &Context, form: &Form) -> Result<Option<Items<Term>>, AllocError>
+    requires { length form.now.coefs ≡ context.now.system.now.vars }
     ensures some { IfOk result
-        (λ found. IfSome found (IsFact context.now 65536 (form_parts form.now))) }
-    ensures none { IfOk result (λ found. IfNone found (NoRowTells context.now.rows form.now)) }
+        (λ found. IfSome found (IsFact context.now.system.now 65536 (form_parts form.now))) }
+    ensures none { IfOk result (λ found. IfNone found
+        (NoRowTells context.now.system.now.rows form.now)) }
 {
-    let mut search = Search::new(context.rows.allocator());
+    let mut search = Search::new(context.system.rows.allocator());
     known_by(context, &mut search, form)
 }
 
@@ -522,11 +523,10 @@ pub enum Sign {
 }
 
 /// What the context tells of the form, whose opposite is `-form - 1`.
-pub fn sign_of(context: &System, form: &Form, opposite: &Form) -> Result<Sign, AllocError>
-    requires context { IsContext context.now }
-    requires over { length form.now.coefs ≡ context.now.vars }
-    requires opposite { length opposite.now.coefs ≡ context.now.vars }
-    ensures { IfOk result (IsSignOf context.now form.now opposite.now) }
+pub fn sign_of(context: &Context, form: &Form, opposite: &Form) -> Result<Sign, AllocError>
+    requires over { length form.now.coefs ≡ context.now.system.now.vars }
+    requires opposite { length opposite.now.coefs ≡ context.now.system.now.vars }
+    ensures { IfOk result (IsSignOf context.now.system.now form.now opposite.now) }
 {
     let above = known(context, form)?;
     match above {

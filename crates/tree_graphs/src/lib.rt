@@ -10,20 +10,24 @@
 
 mod branches;
 mod closure;
+mod context;
 mod cycles;
 mod edges;
 mod facts;
 mod forms;
+mod graph;
 mod rows;
 mod terms;
 mod writes;
 
 pub use branches::test;
 pub use closure::{Bound, Bounds, Closure, closure_of, form_beyond};
-pub use cycles::{Cycle, Graph, cycles_of, with_row};
+pub use context::Context;
+pub use cycles::{Cycle, cycles_of, with_row};
 pub use edges::{Edge, edges_of};
 pub use facts::{Search, Sign, known, known_by, sign_of};
 pub use forms::{difference, negative, opposite, raised, sum};
+pub use graph::Graph;
 pub use rows::{copied_rows, system_of};
 pub use terms::{append, append_from, joined, once, sum_with_row};
 pub use writes::{Problem, Writes};

@@ -1,4 +1,7 @@
 ghost use Rattle.std.specs.Prelude.{◌≡◌, length};
+ghost use Rattle.sanlp.specs.Order.{common_loops};
+ghost use Rattle.tree_graphs.specs.OneProof.{problem_props};
+ghost use Rattle.tree_graphs.specs.Problems.{read_with, write_with, IsProblem};
 
 use affine_core::{Form, Row};
 use plain_data::Items;
@@ -15,8 +18,8 @@ pub struct Problem<'a> {
     pub read_forms: Items<Form>,
 }
 
-/// The writes of one statement to the cell of a read that stand before the read at one level of order, told over `vars`
-/// variables of a context, of which the reader's loops are the first. `rows` are the writer's domain rows; `write_forms` are
+/// The writes of one statement to the cell of a read that stand before the read at one level of order, told by small
+/// differences over `vars` variables of a context, at most 12, of which the reader's loops are the first. `rows` are the writer's domain rows; `write_forms` are
 /// its subscripts over its loops, and `read_forms` those of the read over the variables. `common` is how many loops stand
 /// round both statements.
 #[derive(Clone, Copy)]
@@ -30,6 +33,10 @@ pub struct Writes<'a> {
     pub read_forms: &'a [Form],
     pub common: usize,
     pub level: usize,
+    pub ghost problem: { IsProblem vars (read_with read read_forms.now)
+        (write_with write rows.now write_forms.now) level } by { Prim.hlevel problem_props },
+    pub ghost loops: { common
+        ≡ common_loops write.statement.now.loops read.statement.now.loops },
 }
 
 impl Writes<'_> {

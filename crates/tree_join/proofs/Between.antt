@@ -95,7 +95,7 @@ point_is r context at place h p =
     = checked_point (read_of w) u w.level h.node.own at.node.now u.number place p.0 h.node.checked p.1 in
     let s : IsSimplePoint place p.0 = simple_point h.node.tests at.node.now u.number place p.0 h.node.simple p.1 in
     record {
-      few_loops = h.candidate.asked.problem.few_loops;
+      few_loops = w.problem.few_loops;
       deep = k.deep;
       forms = record {
         over = subst (λ v. All (λ form. length form.coefs ≡ v) place) h.node.vars k.over;
@@ -179,7 +179,7 @@ few_orders (suc c) (suc q) less (v ∷ a) (w ∷ b) rows e =
     omega (arith, ap length i.2, length-append pair i.0, few_orders c q less a b i.0 i.1)
 
 pub few_levels : (r : Read) (cand : Candidate) → IsCandidate r cand → length (write_of cand.writes).statement.loops ≤ 6
-few_levels r cand h = h.asked.problem.few_loops
+few_levels r cand h = cand.writes.problem.few_loops
 
 pub same_text : (u w : Occurrence) (q : ℕ) → u.number ≤ w.number → q < levels_before w u → q < common_of w u
 same_text u w q le lt = go (nat_lt w.number u.number) refl lt where

@@ -133,7 +133,7 @@ module _ (r : Read) (context : System) (path : IsPathContext r.context.now.vars 
 
     sys : IsPlaced read u cand.writes.level k.own k.made cand.edges
     sys =
-        placed cand.writes.vars read u cand.writes.level k.own k.made cand.edges h.candidate.asked.problem
+        placed cand.writes.vars read u cand.writes.level k.own k.made cand.edges cand.writes.problem
         (k.vars ∙ path.vars_are ∙ sym h.candidate.vars) k.are_made h.candidate.graph.edges_are
 
     count : length proofs ≡ length (head_systems pair place k.own) + length u.statement.loops
@@ -215,7 +215,7 @@ module _ (r : Read) (context : System) (path : IsPathContext r.context.now.vars 
         (subst (λ xs. AreRefuted xs (take (length own) proofs)) (heads_are pair place k.own) first) in
         let carried : AreRefuted (map (with_rows c) rows) more
         = heads_carried r context path cand h.candidate c made at.node.now at.rows o count_of enough rows ps more
-        (heads_tight cand.writes.vars read u cand.writes.level place h.candidate.asked.problem point.deep
+        (heads_tight cand.writes.vars read u cand.writes.level place cand.writes.problem point.deep
         point.forms.within) mine zip light_taken in
         subst (AreRefuted (before ++ head_systems pair place c)) (sym new_is)
         (AreRefuted-append before (head_systems pair place c) old more refuted
@@ -230,9 +230,17 @@ pub writer_tree : (r : Read) (context : System) (o : ReadAndWrite) (place : List
     → IsJoinedTree r context tree
 writer_tree r context o place heads proofs tree there point is h k c made =
     let first : AreRefuted ([] ++ head_systems o place c) heads = h.refuted c [] made tt in
-    at_writer c tree o place proofs is there point.deep
-    (subst (λ v. All (λ form. length form.coefs ≡ v) place) (sym made.vars) point.forms.over) point.forms.within
-    (k.refuted c ([] ++ head_systems o place c) made first) (k.sums (h.sums (All-nil _)))
+    at_writer c tree o.write.number place proofs is
+    (record {
+      pair = o;
+      among = there;
+      number_is = refl;
+      deep = point.deep;
+      over = subst (λ v. All (λ form. length form.coefs ≡ v) place) (sym made.vars) point.forms.over;
+      within = point.forms.within;
+      refuted = k.refuted c ([] ++ head_systems o place c) made first;
+      sums = k.sums (h.sums (All-nil _));
+    })
 
 pub zero_tree : (r : Read) (context : System) (proofs : List Proof) (tree : Tree) → tree ≡ Zero proofs
     → AddsRefutations context (λ c. write_systems_of every (pairs_of r) c no_orders) [] proofs

@@ -31,7 +31,7 @@ use Rattle.tree_order.specs.declared.candidates.Read.{Read}
 use Rattle.tree_order.proofs.CarriedProofs.{AreSystems}
 use Rattle.tree_order.proofs.PointSystems.{carried_node, context_over, context_within, light_own, own_at}
 use Rattle.tree_order.proofs.PointSystems.{AreMadeRows, IsNodeOver}
-use Rattle.tree_graphs.specs.Asked.{AreCells, IsProblem}
+use Rattle.tree_graphs.specs.Problems.{AreCells, IsProblem}
 use Rattle.tree_graphs.specs.Class.{is_difference}
 use Rattle.tree_graphs.specs.Edges.{node_of}
 use Rattle.tree_graphs.specs.Level.{common_of}

@@ -1,7 +1,7 @@
 ghost use Rattle.std.specs.Prelude.{◌≡◌, All, Contains, IfOk, OnOk};
 ghost use Rattle.tree_order.specs.Candidates.{AddsLevel, AreCandidates, IsCandidate};
 ghost use Rattle.tree_order.specs.Reads.{read_in, write_in, IsJoined};
-ghost use Rattle.tree_graphs.specs.Asked.{depth_of_write, read_of, write_of, IsAsked};
+ghost use Rattle.tree_graphs.specs.Asked.{depth_of_write, read_of, write_of};
 ghost use Rattle.tree_graphs.specs.Closed.{IsClosure};
 ghost use Rattle.tree_graphs.specs.Cycles.{IsCycle};
 ghost use Rattle.tree_graphs.specs.Level.{HasLevel};
@@ -20,7 +20,14 @@ fn cycles_in(writes: &Writes, edges: &[Edge], closure: &Closure) -> Result<Items
     ensures { IfOk result (All (IsCycle writes.now.vars edges.now)) }
 {
     match closure {
-        Closure::Closed(bounds) => cycles_of(writes, &Graph { edges, bounds }),
+        Closure::Closed(bounds) => {
+            let graph = Graph {
+                writes: *writes,
+                edges,
+                bounds,
+            };
+            cycles_of(&graph)
+        }
         Closure::Negative(_) => Ok(Items::new(writes.alloc)),
     }
 }
@@ -30,7 +37,6 @@ fn writes_at<'a>(read: &Read<'a>, problem: &'a Problem<'a>, level: usize) -> Wri
     requires asked { HasLevel (read_in read.now problem.now) (write_in problem.now) level }
     requires joined { IsJoined read.now }
     requires problem { Contains read.now.problems.now problem.now }
-    ensures asked { IsAsked result }
     ensures vars { result.vars ≡ read.now.context.now.vars }
     ensures read { read_of result ≡ read_in read.now problem.now }
     ensures write { write_of result ≡ write_in problem.now }

@@ -35,7 +35,7 @@ use sanlp::common_loops;
 use source_tree::Tree;
 use std::alloc::{AllocError, Global};
 use tree_empty::dead_leaf;
-use tree_graphs::{Search, once, opposite};
+use tree_graphs::{Context, Search, once, opposite};
 use tree_order::{
     Absence, Candidate, Compared, Comparison, Followed, Pair, Position, Question, Read, Seen,
     absence_of, best_of, compare_points, copy_rows, exclusion, follow, level_count, own_rows,
@@ -245,7 +245,8 @@ fn enter(context: &mut System, row: Form) -> Result<Option<Tree>, AllocError>
     ensures low { IfOk result (λ leaf. IfSome leaf (λ tree. height_of tree ≡ 0)) }
 {
     context.rows.push(row)?;
-    dead_leaf(&*context)
+    let here = Context { system: &*context };
+    dead_leaf(&here)
 }
 
 // Takes the last row off the context.
@@ -544,7 +545,10 @@ fn follow_on<'a>(
         node,
         rows,
     } = at;
-    let Followed { node, rows } = follow(node, &walk.context, rows)?;
+    let here = Context {
+        system: &walk.context,
+    };
+    let Followed { node, rows } = follow(node, &here, rows)?;
     match node {
         Tree::Test(form, yes, no) => {
             let form = form.get();
@@ -627,7 +631,10 @@ fn compare_on<'a>(
             Ok(Step::On(Next::Choose))
         }
         Comparison::Open(so_far) => {
-            let compared = compare_points(&walk.context, &pair, so_far)?;
+            let here = Context {
+                system: &walk.context,
+            };
+            let compared = compare_points(&here, &pair, so_far)?;
             match compared {
                 Comparison::Open(so_far) => ask_next(task, walk, at, pair, so_far),
                 told => Ok(Step::On(Next::Compare(at, pair, told))),

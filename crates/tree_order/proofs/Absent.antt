@@ -214,7 +214,7 @@ module _ (r : Read) (context : System) (room : ℕ) (path : IsPathContext r.cont
 pub candidate_context : (r : Read) (context : System) (room : ℕ) (cand : Candidate) → IsCandidate r cand
     → IsPathContext cand.writes.vars room context → IsContext context
 candidate_context r context room cand h path = record {
-  short = omega (arith, path.vars_are, h.asked.problem.few_vars);
+  short = omega (arith, path.vars_are, cand.writes.problem.few_vars);
   over = path.over;
   few = omega (arith, path.few);
 }

@@ -29,7 +29,8 @@ use Rattle.tree_order.specs.Positions.{own_sums, IsNode}
 use Rattle.tree_order.specs.declared.candidates.Candidate.{Candidate}
 use Rattle.tree_order.specs.declared.candidates.Read.{Read}
 use Rattle.tree_order.proofs.CarriedProofs.{carried_refuted, AreSystems, StandsIn, split_number}
-use Rattle.tree_graphs.specs.Asked.{read_of, write_of, IsProblem}
+use Rattle.tree_graphs.specs.Asked.{read_of, write_of}
+use Rattle.tree_graphs.specs.Problems.{IsProblem}
 use Rattle.tree_graphs.specs.Edges.{edge_parts, write_rows, AreLevelRows, IsEdge}
 use Rattle.tree_graphs.specs.Facts.{form_parts, IsFact}
 use Rattle.tree_graphs.specs.Paths.{edge_part, term_of}
@@ -364,7 +365,7 @@ module _ (r : Read) (context : System) (room : ℕ) (path : IsPathContext r.cont
 
   problem : IsProblem c.vars read u cand.writes.level
   problem = subst (λ v. IsProblem v read u cand.writes.level) (h.vars ∙ sym path.vars_are ∙ sym vars_is)
-      h.asked.problem
+      cand.writes.problem
 
   pub system : IsPlaced read u cand.writes.level c context.rows cand.edges
   system = placed c.vars read u cand.writes.level c context.rows cand.edges problem refl made_is h.graph.edges_are

@@ -1,7 +1,7 @@
 -- The candidates of a read: for each write of its array and each level of order before it, the writes at that level.
 use Rattle.std.specs.Prelude.{◌≡◌, ℕ, ◌+◌, ◌≤◌, Bool, ◌&&◌, ◌==◌, nat_lt, List, length, All, Some, Contains, slice_get, IsTrue, if◌then◌else◌}
 use Rattle.tree_graphs.specs.Cycles.{IsCycle}
-use Rattle.tree_graphs.specs.Asked.{depth_of_write, read_of, write_of, IsAsked}
+use Rattle.tree_graphs.specs.Asked.{depth_of_write, read_of, write_of}
 use Rattle.tree_graphs.specs.Closed.{IsClosure}
 use Rattle.tree_graphs.specs.Level.{common_of, HasLevel}
 use Rattle.tree_graphs.specs.Rounds.{IsGraphOf}
@@ -31,7 +31,6 @@ is_candidate_of u p c = (c.writes.write.number == u) && (c.writes.level == p)
 -- rows and its cycles. Where a sum of the graph is negative, no cycle through 0 is kept.
 pub record IsCandidate (r : Read) (c : Candidate) : Type 0 where
   pub joined : IsJoined r
-  pub asked : IsAsked c.writes
   pub pair : Contains (pairs_of r) (pair_of c.writes)
   pub vars : c.writes.vars ≡ r.context.now.vars
   pub checked : (own : Context) → IsMadeAs r.context.now own

@@ -5,7 +5,8 @@ use Rattle.tree_graphs.specs.declared.writes.Problem.{Problem}
 use Rattle.tree_order.specs.declared.candidates.Read.{Read}
 use Rattle.int_polyhedra.specs.declared.system.System.{System}
 use Rattle.int_polyhedra.specs.Systems.{AreOver}
-use Rattle.tree_graphs.specs.Asked.{read_of, write_of, IsProblem}
+use Rattle.tree_graphs.specs.Asked.{read_of, write_of}
+use Rattle.tree_graphs.specs.Problems.{IsProblem}
 use Rattle.tree_graphs.specs.Joint.{IsTreeFor, ReadAndWrite}
 use Rattle.tree_graphs.specs.Level.{HasLevel}
 use Rattle.tree_graphs.specs.declared.writes.Writes.{Writes}

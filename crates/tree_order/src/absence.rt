@@ -8,7 +8,6 @@ ghost use Rattle.tree_order.specs.Reads.{pair_of};
 ghost use Rattle.tree_order.specs.Refutations.{IsPointIn, RefutesBetween};
 ghost use Rattle.tree_graphs.specs.Cycles.{IsCycle};
 ghost use Rattle.tree_graphs.specs.Asked.{write_of};
-ghost use Rattle.tree_graphs.specs.Facts.{IsContext};
 ghost use Rattle.tree_graphs.specs.Level.{common_of};
 ghost use Rattle.tree_graphs.specs.Paths.{terms_from};
 ghost use Rattle.tree_graphs.specs.declared.edges.Edge.{Edge as EdgeOf};
@@ -19,38 +18,37 @@ use crate::candidates::Candidate;
 use affine_core::Form;
 use int_polyhedra::{System, Term};
 use plain_data::Items;
-use std::alloc::{AllocError, Global};
+use std::alloc::AllocError;
 use tree_graphs::{
-    Bound, Bounds, Closure, Cycle, Edge, Search, append, append_from, form_beyond, known_by,
-    negative, opposite, raised, sum,
+    Bound, Bounds, Closure, Context, Cycle, Edge, Search, append, append_from, form_beyond,
+    known_by, negative, opposite, raised, sum,
 };
 
 // That a cycle of rows behind the context is below 0: terms of the context that show so, and the rows.
-fn refutation(context: &System, shown: &[Term], rows: &[Term]) -> Result<Items<Term>, AllocError>
-    requires few { length context.now.rows < 2 ^ 32 }
-    requires rows { All (λ t. length context.now.rows + t.row < 2 ^ 32) rows.now }
+fn refutation(context: &Context, shown: &[Term], rows: &[Term]) -> Result<Items<Term>, AllocError>
+    requires { All (λ t. length context.now.system.now.rows + t.row < 2 ^ 32) rows.now }
     ensures { IfOk result
-        (λ ts. ts ≡ shown.now ++ terms_from (length context.now.rows) rows.now) }
+        (λ ts. ts ≡ shown.now ++ terms_from (length context.now.system.now.rows) rows.now) }
 {
-    let mut terms = Items::from_slice(context.rows.allocator(), shown)?;
-    append_from(&mut terms, context.rows.len() as u32, rows)?;
+    let mut terms = Items::from_slice(context.system.rows.allocator(), shown)?;
+    append_from(&mut terms, context.system.rows.len() as u32, rows)?;
     Ok(terms)
 }
 
 // By the first of these cycles that is known to be below 0.
 fn by_cycles(
-    context: &System,
+    context: &Context,
     search: &mut Search,
     cycles: &[Cycle],
 ) -> Result<Option<Items<Term>>, AllocError>
-    requires context { IsContext context.now }
-    requires cycles { (edges : List EdgeOf) × AreRefuting context.now edges
-        × All (IsCycle context.now.vars edges) cycles.now }
+    requires { (edges : List EdgeOf) × AreRefuting context.now.system.now edges
+        × All (IsCycle context.now.system.now.vars edges) cycles.now }
     ensures some { IfOk result (λ found. IfSome found (λ ts. (edges : List EdgeOf)
-        → AreRefuting context.now edges → All (IsCycle context.now.vars edges) cycles.now
-        → IsContradicted context.now edges ts)) }
+        → AreRefuting context.now.system.now edges
+        → All (IsCycle context.now.system.now.vars edges) cycles.now
+        → IsContradicted context.now.system.now edges ts)) }
     ensures none { IfOk result
-        (λ found. IfNone found (All (NoRowRefutesCycle context.now) cycles.now)) }
+        (λ found. IfNone found (All (NoRowRefutesCycle context.now.system.now) cycles.now)) }
 {
     let Some((cycle, cycles)) = cycles.split_first() else {
         return Ok(None);
@@ -79,9 +77,10 @@ pub fn absence_of(
         (λ found. IfSome found (IsContradicted context.now candidate.now.edges)) }
     ensures none { IfOk result (λ found. IfNone found (NoRowRefutes context.now candidate.now)) }
 {
+    let here = Context { system: context };
     match &candidate.closure {
-        Closure::Negative(rows) => Ok(Some(refutation(context, &[], rows.as_slice())?)),
-        Closure::Closed(_) => by_cycles(context, search, candidate.cycles.as_slice()),
+        Closure::Negative(rows) => Ok(Some(refutation(&here, &[], rows.as_slice())?)),
+        Closure::Closed(_) => by_cycles(&here, search, candidate.cycles.as_slice()),
     }
 }
 
@@ -137,7 +136,7 @@ struct Numbered<'a> {
 
 // The rows of an edge from 0, a path and an edge back to 0, where their sum is known to be below 0.
 fn by_round(
-    context: &System,
+    context: &Context,
     search: &mut Search,
     out: &Edge,
     out_number: u32,
@@ -145,20 +144,21 @@ fn by_round(
     back: &Edge,
     back_number: u32,
 ) -> Result<Option<Items<Term>>, AllocError>
-    requires context { IsContext context.now }
-    requires round { (edges : List EdgeOf) × AreRefuting context.now edges
-        × RoundIsNear edges context.now.vars out.now out_number bound.now back.now back_number }
+    requires { (edges : List EdgeOf) × AreRefuting context.now.system.now edges
+        × RoundIsNear edges context.now.system.now.vars out.now out_number bound.now back.now
+        back_number }
     ensures { IfOk result (λ found. IfSome found (λ ts. (edges : List EdgeOf)
-        → AreRefuting context.now edges
-        → RoundIsNear edges context.now.vars out.now out_number bound.now back.now back_number
-        → IsContradicted context.now edges ts)) }
+        → AreRefuting context.now.system.now edges
+        → RoundIsNear edges context.now.system.now.vars out.now out_number bound.now back.now
+        back_number
+        → IsContradicted context.now.system.now edges ts)) }
 {
     let form = form_beyond(&sum(&out.weight, &back.weight), bound);
     let found = known_by(context, search, &opposite(&form))?;
     let Some(shown) = found else {
         return Ok(None);
     };
-    let mut rows = Items::new(context.rows.allocator());
+    let mut rows = Items::new(context.system.rows.allocator());
     rows.push(Term {
         row: out_number,
         times: 1,
@@ -173,7 +173,7 @@ fn by_round(
 
 // By this edge, if it is one from 0, and this edge back to 0.
 fn by_out(
-    context: &System,
+    context: &Context,
     search: &mut Search,
     bounds: &Bounds,
     zero: usize,
@@ -182,13 +182,13 @@ fn by_out(
     back: &Edge,
     back_number: u32,
 ) -> Result<Option<Items<Term>>, AllocError>
-    requires context { IsContext context.now }
-    requires out { (own : List EdgeOf) × (edges : List EdgeOf) × (outs : List EdgeOf)
-        × AreOut context.now own edges bounds.now zero (out.now ∷ outs) number back.now
+    requires { (own : List EdgeOf) × (edges : List EdgeOf) × (outs : List EdgeOf)
+        × AreOut context.now.system.now own edges bounds.now zero (out.now ∷ outs) number back.now
         back_number }
     ensures { IfOk result (λ found. IfSome found (λ ts. (own edges outs : List EdgeOf)
-        → AreOut context.now own edges bounds.now zero (out.now ∷ outs) number back.now back_number
-        → IsContradicted context.now edges ts)) }
+        → AreOut context.now.system.now own edges bounds.now zero
+        (out.now ∷ outs) number back.now back_number
+        → IsContradicted context.now.system.now edges ts)) }
 {
     if out.from != zero || out.to == zero {
         return Ok(None);
@@ -201,7 +201,7 @@ fn by_out(
 
 // By one of these edges from 0, the last one first, and this edge back to it. The first one has this number.
 fn by_outs(
-    context: &System,
+    context: &Context,
     search: &mut Search,
     bounds: &Bounds,
     zero: usize,
@@ -210,12 +210,13 @@ fn by_outs(
     back: &Edge,
     back_number: u32,
 ) -> Result<Option<Items<Term>>, AllocError>
-    requires context { IsContext context.now }
-    requires outs { (own : List EdgeOf) × (edges : List EdgeOf)
-        × AreOut context.now own edges bounds.now zero outs.now number back.now back_number }
+    requires { (own : List EdgeOf) × (edges : List EdgeOf)
+        × AreOut context.now.system.now own edges bounds.now zero outs.now number back.now
+        back_number }
     ensures { IfOk result (λ found. IfSome found (λ ts. (own edges : List EdgeOf)
-        → AreOut context.now own edges bounds.now zero outs.now number back.now back_number
-        → IsContradicted context.now edges ts)) }
+        → AreOut context.now.system.now own edges bounds.now zero outs.now number back.now
+        back_number
+        → IsContradicted context.now.system.now edges ts)) }
 {
     let Some((out, outs)) = outs.split_first() else {
         return Ok(None);
@@ -247,7 +248,7 @@ fn by_outs(
 
 // By one of these edges from 0 and this edge, if it is one back to 0.
 fn by_back(
-    context: &System,
+    context: &Context,
     search: &mut Search,
     bounds: &Bounds,
     zero: usize,
@@ -255,14 +256,15 @@ fn by_back(
     back: &Edge,
     number: u32,
 ) -> Result<Option<Items<Term>>, AllocError>
-    requires context { IsContext context.now }
-    requires back { (own : List EdgeOf) × (edges : List EdgeOf) × (backs : List EdgeOf)
-        × AreBack context.now own edges bounds.now zero outs.edges.now outs.first (back.now ∷ backs)
+    requires { (own : List EdgeOf) × (edges : List EdgeOf) × (backs : List EdgeOf)
+        × AreBack context.now.system.now own edges bounds.now zero outs.edges.now outs.first
+        (back.now ∷ backs)
         number }
     ensures { IfOk result (λ found. IfSome found (λ ts. (own edges backs : List EdgeOf)
-        → AreBack context.now own edges bounds.now zero outs.entry.edges.now outs.entry.first
+        → AreBack context.now.system.now own edges bounds.now zero outs.entry.edges.now
+        outs.entry.first
         (back.now ∷ backs) number
-        → IsContradicted context.now edges ts)) }
+        → IsContradicted context.now.system.now edges ts)) }
 {
     if back.to != zero || back.from == zero {
         return Ok(None);
@@ -274,7 +276,7 @@ fn by_back(
 
 // By one of these edges from 0 and one of these edges back to it, the last one first. The first of those has this number.
 fn by_rounds(
-    context: &System,
+    context: &Context,
     search: &mut Search,
     bounds: &Bounds,
     zero: usize,
@@ -282,13 +284,14 @@ fn by_rounds(
     backs: &[Edge],
     number: u32,
 ) -> Result<Option<Items<Term>>, AllocError>
-    requires context { IsContext context.now }
-    requires backs { (own : List EdgeOf) × (edges : List EdgeOf) × AreBack context.now own edges
+    requires { (own : List EdgeOf) × (edges : List EdgeOf)
+        × AreBack context.now.system.now own edges
         bounds.now zero outs.edges.now outs.first backs.now number }
     ensures { IfOk result (λ found. IfSome found (λ ts. (own edges : List EdgeOf)
-        → AreBack context.now own edges bounds.now zero outs.entry.edges.now outs.entry.first
+        → AreBack context.now.system.now own edges bounds.now zero outs.entry.edges.now
+        outs.entry.first
         backs.now number
-        → IsContradicted context.now edges ts)) }
+        → IsContradicted context.now.system.now edges ts)) }
 {
     let Some((back, backs)) = backs.split_first() else {
         return Ok(None);
@@ -317,6 +320,7 @@ fn by_orders(
     ensures { IfOk result (λ found. IfSome found
         (IsContradicted context.now (candidate.now.edges ++ orders.now))) }
 {
+    let here = Context { system: context };
     let zero = candidate.writes.depth();
     let behind = candidate.edges.len() as u32;
     let own = candidate.edges.as_slice();
@@ -328,15 +332,15 @@ fn by_orders(
         edges: own,
         first: 0,
     };
-    let by_first = by_rounds(context, search, bounds, zero, first, orders, behind)?;
+    let by_first = by_rounds(&here, search, bounds, zero, first, orders, behind)?;
     if let Some(terms) = by_first {
         return Ok(Some(terms));
     }
-    let by_order = by_rounds(context, search, bounds, zero, order, orders, behind)?;
+    let by_order = by_rounds(&here, search, bounds, zero, order, orders, behind)?;
     if let Some(terms) = by_order {
         return Ok(Some(terms));
     }
-    by_rounds(context, search, bounds, zero, order, own, 0)
+    by_rounds(&here, search, bounds, zero, order, own, 0)
 }
 
 /// Terms that refute that a write of the candidate stands after a place at this level, where one cycle of the candidate's

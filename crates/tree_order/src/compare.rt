@@ -3,16 +3,15 @@ ghost use Rattle.affine_core.specs.declared.form.Form.{Form as FormOf};
 ghost use Rattle.int_polyhedra.specs.declared.system.System.{System as SystemOf};
 ghost use Rattle.tree_order.specs.Comparisons.{count_had, facts_had, AreForms, ArePoints, HasNextLoop, IsComparedSoFar, IsComparison, IsGap, IsHad, IsQuestion, TellsMore};
 ghost use Rattle.tree_order.specs.Orders.{turned_equal, AreEqual};
-ghost use Rattle.tree_graphs.specs.Facts.{IsContext};
 ghost use Rattle.tree_sums.specs.Parts.{IsWithin};
 ghost use Rattle.source_tree.specs.Systems.{Occurrence};
 
 use crate::order::{Equality, Order, copy_equal, turned};
 use affine_core::{Form, KeptForm};
-use int_polyhedra::{System, Term};
+use int_polyhedra::Term;
 use plain_data::Items;
 use std::alloc::{AllocError, Global};
-use tree_graphs::{difference, known, once, raised};
+use tree_graphs::{Context, difference, known, once, raised};
 
 /// Two points of two statements, the best so far and a new one, and how many loops stand round both statements.
 #[derive(Clone, Copy)]
@@ -143,15 +142,14 @@ fn by_text(pair: &Pair, equal: Items<Equality>) -> Result<Comparison, AllocError
 
 // The terms, or what the context tells.
 fn had_or_known(
-    context: &System,
+    context: &Context,
     had: Option<Items<Term>>,
     form: &Form,
 ) -> Result<Option<Items<Term>>, AllocError>
-    requires context { IsContext context.now }
-    requires over { length form.now.coefs ≡ context.now.vars }
+    requires { length form.now.coefs ≡ context.now.system.now.vars }
     ensures had { IfOk result (λ found. (a b : List FormOf) (l : ℕ)
-        → IsGap context.now.vars a b l form.now → IsHad context.now l a b had
-        → IsHad context.now l a b found) }
+        → IsGap context.now.system.now.vars a b l form.now → IsHad context.now.system.now l a b had
+        → IsHad context.now.system.now l a b found) }
     ensures kept { IfOk result (λ found. count_had had ≤ count_had found) }
 {
     match had {
@@ -162,17 +160,16 @@ fn had_or_known(
 
 /// Compares two points loop by loop, as far as the context tells.
 pub fn compare_points(
-    context: &System,
+    context: &Context,
     pair: &Pair,
     compared: Compared,
 ) -> Result<Comparison, AllocError>
     requires points { (w : Occurrence) × (u : Occurrence)
-        × ArePoints context.now.vars w u pair.now }
-    requires context { IsContext context.now }
-    requires so_far { IsComparedSoFar context.now pair.now compared }
+        × ArePoints context.now.system.now.vars w u pair.now }
+    requires so_far { IsComparedSoFar context.now.system.now pair.now compared }
     ensures order { IfOk result (λ comparison. (w u : Occurrence)
-        → ArePoints context.now.vars w u pair.now
-        → IsComparison context.now w u pair.now comparison) }
+        → ArePoints context.now.system.now.vars w u pair.now
+        → IsComparison context.now.system.now w u pair.now comparison) }
     ensures next { IfOk result (HasNextLoop pair.now (facts_had compared)) }
 {
     let Compared {

@@ -2,13 +2,12 @@ ghost use Rattle.std.specs.Prelude.{◌≤◌, IfOk};
 ghost use Rattle.tree_order.specs.declared.candidates.Candidate.{Candidate as CandidateOf};
 ghost use Rattle.tree_graphs.specs.Heights.{height_of};
 ghost use Rattle.tree_order.specs.Positions.{IsNode};
-ghost use Rattle.tree_graphs.specs.Facts.{IsContext};
 
-use int_polyhedra::{System, Term};
+use int_polyhedra::Term;
 use plain_data::Items;
 use source_tree::Tree;
 use std::alloc::AllocError;
-use tree_graphs::{Sign, opposite, sign_of};
+use tree_graphs::{Context, Sign, opposite, sign_of};
 
 /// A node of a candidate's tree, and per row of the candidate's own context there the terms that show it in the joined
 /// context.
@@ -21,13 +20,13 @@ pub struct Followed<'a> {
 /// Follows a candidate's tree as far as the joined context tells which tree a Test takes.
 pub fn follow<'a>(
     node: &'a Tree,
-    context: &System,
+    context: &Context,
     mut rows: Items<Items<Term>>,
 ) -> Result<Followed<'a>, AllocError>
-    requires context { IsContext context.now }
-    requires node { (c : CandidateOf) × IsNode context.now c node.now rows }
+    requires { (c : CandidateOf) × IsNode context.now.system.now c node.now rows }
     ensures node { IfOk result (λ to. (c : CandidateOf)
-        → IsNode context.now c node.now rows → IsNode context.now c to.node.now to.rows) }
+        → IsNode context.now.system.now c node.now rows
+        → IsNode context.now.system.now c to.node.now to.rows) }
     ensures lower { IfOk result (λ to. height_of to.node.now ≤ height_of node.now) }
 {
     let Tree::Test(form, yes, no) = node else {

@@ -4,24 +4,24 @@
 -- rows, so at the end the bound is the weight of the terms times that of the rows. Where this is below 2^127 no step
 -- leaves 128 bits, and the sum within 128 bits is the sum without bounds. The bound is of the numbers' amounts alone:
 -- that they cancel is used nowhere.
-use Rattle.std.proofs.Common.{◌≡◌, ℕ, zero, suc, ◌+◌, ◌*◌, ◌^◌, ◌<◌, ◌≤◌, ℤ, pos, negsuc, ◌+ℤ◌, ◌*ℤ◌, List, [], ◌∷◌}
-use Rattle.std.proofs.Common.{true, refl, ap, ◌∙◌, arith, add-mul}
+use Rattle.std.proofs.Common.{◌≡◌, ℕ, ◌+◌, ◌*◌, ◌^◌, ◌<◌, ◌≤◌, ℤ, pos, negsuc, ◌+ℤ◌, ◌*ℤ◌, List, [], ◌∷◌, true, refl}
+use Rattle.std.proofs.Common.{ap, ◌∙◌, arith, add-mul}
 use Rattle.std.specs.Prelude.{Option, Some, None, All, slice_get}
 use Rattle.std.specs.Option.{option_and_then}
 use Rattle.std.specs.List.{list_all}
 use Rattle.std.specs.Int.RustNames.{unsigned_abs}
 use Rattle.std.proofs.lemmas.Int.{ints}
-use Rattle.std.proofs.lemmas.List.Elements.{All-nil, All-cons, All-head, All-tail}
-use Rattle.std.proofs.lemmas.Option.{same_Some}
+use Rattle.std.proofs.lemmas.List.Elements.{All-nil, All-cons, All-head, All-tail, All-map, All-weaker}
 use Rattle.std.proofs.Math.Nat.{mul-le-mul_left}
 use Rattle.std.proofs.lemmas.Bool.{and_from, cond-true}
 use Rattle.affine_core.specs.declared.form.Form.{Form}
-use Rattle.affine_core.specs.Affine.{form_product, form_sum, products, sums}
+use Rattle.affine_core.specs.Affine.{form_product, form_sum, sums}
 use Rattle.affine_core.specs.Within.{fits_128_bits, form_fits_128_bits, form_in_128_bits}
 use Rattle.affine_core.proofs.Integers.{unsigned_abs-sum}
 use Rattle.int_polyhedra.specs.declared.system.Term.{Term}
 use Rattle.int_polyhedra.specs.Steps.{sum_onto}
 use Rattle.tree_sums.specs.Parts.{IsWithin, weight}
+use Rattle.plain_data.proofs.Lists.{All-slice_get}
 use Rattle.tree_sums.proofs.Weights.{abs_product}
 
 -- the sum without any bound
@@ -51,18 +51,14 @@ in_bits_within bound f h k =
 product_below : (bound : ℕ) (z by : ℤ) → unsigned_abs z ≤ bound → unsigned_abs (z *ℤ by) ≤ unsigned_abs by * bound
 product_below bound z by h = omega (arith, ints, abs_product z by, mul-le-mul_left (unsigned_abs by) h)
 
-products_below : (bound : ℕ) (by : ℤ) (zs : List ℤ) → All (λ c. unsigned_abs c ≤ bound) zs
-    → All (λ c. unsigned_abs c ≤ unsigned_abs by * bound) (products by zs)
-products_below bound by [] h = All-nil _
-products_below bound by (z ∷ zs) h =
-    All-cons (λ c. unsigned_abs c ≤ unsigned_abs by * bound) (z *ℤ by) (products by zs)
-    (product_below bound z by (All-head (λ c. unsigned_abs c ≤ bound) z zs h))
-    (products_below bound by zs (All-tail (λ c. unsigned_abs c ≤ bound) z zs h))
-
 pub product_within : (bound : ℕ) (by : ℤ) (f : Form) → IsWithin bound f
     → IsWithin (unsigned_abs by * bound) (form_product by f)
-product_within bound by f h =
-    record { constant = product_below bound f.constant by h.constant; coefs = products_below bound by f.coefs h.coefs }
+product_within bound by f h = record {
+  constant = product_below bound f.constant by h.constant;
+  coefs = All-map (λ c. unsigned_abs c ≤ unsigned_abs by * bound) (λ c. c *ℤ by) f.coefs
+      (All-weaker (λ c. unsigned_abs c ≤ bound) (λ c. unsigned_abs (c *ℤ by) ≤ unsigned_abs by * bound)
+      (λ c. product_below bound c by) f.coefs h.coefs);
+}
 
 sums_below : (a b : ℕ) (xs ys : List ℤ) → All (λ c. unsigned_abs c ≤ a) xs → All (λ c. unsigned_abs c ≤ b) ys
     → All (λ c. unsigned_abs c ≤ a + b) (sums xs ys)
@@ -85,12 +81,6 @@ sum_within a b f g h k = record {
   coefs = sums_below a b f.coefs g.coefs h.coefs k.coefs;
 }
 
-get_within : (bound : ℕ) (rows : List Form) (k : ℕ) (row : Form) → All (IsWithin bound) rows → slice_get rows k
-    ≡ Some row → IsWithin bound row
-get_within bound [] k row h e = absurd (let f : None ≡ Some row = e in cc)
-get_within bound (r ∷ rows) zero row h e = rw (← same_Some r row e) (All-head (IsWithin bound) r rows h)
-get_within bound (r ∷ rows) (suc k) row h e = get_within bound rows k row (All-tail (IsWithin bound) r rows h) e
-
 pub stays : (bound so_far : ℕ) (rows : List Form) (sum : Form) (ts : List Term) → All (IsWithin bound) rows
     → IsWithin so_far sum → so_far + weight ts * bound < 2 ^ 127
     → sum_onto rows sum ts ≡ ideal rows sum ts
@@ -109,7 +99,7 @@ stays bound so_far rows sum (t ∷ ts) h s k =
           let by : ℕ = unsigned_abs t.times in
           let spread : (by + weight ts) * bound ≡ by * bound + weight ts * bound = add-mul by (weight ts) bound in
           let w : IsWithin (by * bound) (form_product t.times row) =
-          product_within bound t.times row (get_within bound rows t.row row h e) in
+          product_within bound t.times row (All-slice_get (IsWithin bound) rows t.row row h e) in
           let more : form_in_128_bits (form_product t.times row) ≡ Some (form_product t.times row) =
           in_bits_within (by * bound) (form_product t.times row) w (omega (arith, k, spread)) in
           let v : IsWithin (so_far + by * bound) (form_sum sum (form_product t.times row)) =

@@ -49,46 +49,36 @@ both_least t p q r s pr ps qr qs =
     both_least_left t p q (lesser r s) (both_least_right t p r s pr ps) (both_least_right t q r s qr qs)
 
 shift_right : (x a b c : Option ℤ) → AtMost x (bound_sum a b) → AtMost (bound_sum x c) (bound_sum a (bound_sum b c))
-shift_right x None b c h = tt
-shift_right x (Some a) None c h = tt
-shift_right x (Some a) (Some b) None h = tt
-shift_right None (Some a) (Some b) (Some c) h = absurd h
 shift_right (Some x) (Some a) (Some b) (Some c) h = omega (arith, ints, h)
+shift_right None (Some a) (Some b) (Some c) h = absurd h
+shift_right _ _ _ _ h = tt
 
 shift_left : (y a b c : Option ℤ) → AtMost y (bound_sum b c) → AtMost (bound_sum a y) (bound_sum (bound_sum a b) c)
-shift_left y None b c h = tt
-shift_left y (Some a) None c h = tt
-shift_left y (Some a) (Some b) None h = tt
-shift_left None (Some a) (Some b) (Some c) h = absurd h
 shift_left (Some y) (Some a) (Some b) (Some c) h = omega (arith, ints, h)
+shift_left None (Some a) (Some b) (Some c) h = absurd h
+shift_left _ _ _ _ h = tt
 
 -- once round and back to where it was
 round : (w a b c z : Option ℤ) → AtMost w (bound_sum b c) → NotNegative w
     → AtMost (bound_sum a z) (bound_sum (bound_sum a b) (bound_sum c z))
-round w None b c z h k = tt
-round w (Some a) None c z h k = tt
-round w (Some a) (Some b) None z h k = tt
-round w (Some a) (Some b) (Some c) None h k = tt
-round None (Some a) (Some b) (Some c) (Some z) h k = absurd h
 round (Some w) (Some a) (Some b) (Some c) (Some z) h k = omega (arith, ints, h, k)
+round None (Some a) (Some b) (Some c) (Some z) h k = absurd h
+round _ _ _ _ _ h k = tt
 
 stay_right : (w a z : Option ℤ) → NotNegative w → AtMost (bound_sum a z) (bound_sum a (bound_sum w z))
-stay_right w None z k = tt
-stay_right None (Some a) z k = tt
-stay_right (Some w) (Some a) None k = tt
+stay_right _ None _ k = tt
 stay_right (Some w) (Some a) (Some z) k = omega (arith, ints, k)
+stay_right _ _ _ k = tt
 
 stay_left : (w a z : Option ℤ) → NotNegative w → AtMost (bound_sum a z) (bound_sum (bound_sum a w) z)
-stay_left w None z k = tt
-stay_left None (Some a) z k = tt
-stay_left (Some w) (Some a) None k = tt
+stay_left _ None _ k = tt
 stay_left (Some w) (Some a) (Some z) k = omega (arith, ints, k)
+stay_left _ _ _ k = tt
 
 twice : (w a z : Option ℤ) → NotNegative w → AtMost (bound_sum a z) (bound_sum (bound_sum a w) (bound_sum w z))
-twice w None z k = tt
-twice None (Some a) z k = tt
-twice (Some w) (Some a) None k = tt
+twice _ None _ k = tt
 twice (Some w) (Some a) (Some z) k = omega (arith, ints, k)
+twice _ _ _ k = tt
 
 pub closes : (v : ℕ) (d : Bounds) → ClosedBelow v d → NotNegative (d v v) → ClosedBelow (v + 1) (bounds_through v d)
 closes v d closed plain u below from to = elim (cases_lt u v) [

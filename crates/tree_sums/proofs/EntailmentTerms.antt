@@ -72,11 +72,11 @@ confirms vars rows ts f over wide range above proved =
       name_rows = range;
       not_negative = above;
       at_most = omega
-          (arith, ints, r.negative, last_part rows other ts the_constant range, negation_part f other the_constant is);
+          (arith, ints, r.1.negative, last_part rows other ts the_constant range, negation_part f other the_constant is);
       same = λ i l. omega (
         arith,
         ints,
-        r.no_variable i,
+        r.1.no_variable i l,
         last_part rows other ts (the_coefficient i) range,
         negation_part f other (the_coefficient i) is,
         minus_one (length f.coefs) i,

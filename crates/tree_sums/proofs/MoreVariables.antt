@@ -3,8 +3,8 @@
 -- A widened row has zeros behind its coefficients, so its parts are those that it had, and so are the weighted sums of
 -- any terms. Of the new variables every row has the coefficient 0, and so has the sum; so what is shown must have it
 -- there too, which is asked.
-use Rattle.std.proofs.Common.{◌≡◌, ◌<◌, ◌≤◌, ℕ, ℤ, pos, ◌+ℤ◌, ◌*ℤ◌, List, [], ◌∷◌, length, map}
-use Rattle.std.proofs.Common.{refl, sym, ap, ◌∙◌, inl, inr, arith}
+use Rattle.std.proofs.Common.{◌≡◌, ◌<◌, ◌≤◌, ℕ, ℤ, pos, ◌*ℤ◌, List, [], ◌∷◌, length, map, refl, sym, ap, ◌∙◌, inl, inr}
+use Rattle.std.proofs.Common.{arith}
 use Rattle.std.specs.Prelude.{Option, Some, None, slice_get}
 use Rattle.std.specs.Option.{option_map, option_map_or}
 use Rattle.std.proofs.lemmas.Int.{ints}
@@ -19,7 +19,7 @@ use Rattle.int_polyhedra.specs.Systems.{AreOver}
 use Rattle.int_polyhedra.proofs.Variables.{over_at}
 use Rattle.tree_sums.specs.Parts.{Part, the_constant, the_coefficient, part_of, row_part, weighted_sum}
 use Rattle.tree_sums.proofs.MadeLaws.{Widens}
-use Rattle.tree_sums.proofs.SmallRows.{widened_part}
+use Rattle.tree_sums.proofs.Within.{widened_part}
 
 mapped_part : (more : ℕ) (part : Part) (row : Option Form) → option_map_or (part_of part)
     (option_map (widened_form more) row) (pos 0) ≡ option_map_or (part_of part) row (pos 0)
@@ -34,11 +34,7 @@ row_part-widened more rows part k =
 
 weighted_same : (more : ℕ) (rows : List Form) (part : Part) (ts : List Term)
     → weighted_sum (row_part (map (widened_form more) rows) part) ts ≡ weighted_sum (row_part rows part) ts
-weighted_same more rows part [] = refl
-weighted_same more rows part (t ∷ ts) =
-    ap (λ z. (z *ℤ t.times) +ℤ weighted_sum (row_part (map (widened_form more) rows) part) ts)
-    (row_part-widened more rows part t.row)
-    ∙ ap (λ z. (row_part rows part t.row *ℤ t.times) +ℤ z) (weighted_same more rows part ts)
+weighted_same more rows part ts = λ i. weighted_sum (λ k. row_part-widened more rows part k i) ts
 
 none_there : (vars : ℕ) (rows : List Form) (i k : ℕ) → AreOver vars rows → vars ≤ i
     → row_part rows (the_coefficient i) k ≡ pos 0

@@ -32,6 +32,7 @@ use Rattle.int_polyhedra.proofs.SumInvariants.{option_or_none, row_unless_ok, re
 use Rattle.int_polyhedra.proofs.Variables.{length_zeros}
 use Rattle.plain_data.proofs.Lists.{get_or-replicate_same}
 use Rattle.tree_sums.specs.Parts.{Part, weight, the_constant, the_coefficient, part_of, row_part, weighted_sum, IsWithin}
+use Rattle.tree_sums.specs.Shown.{Shows, IsNegative}
 use Rattle.tree_sums.specs.Carried.{carried_terms}
 use Rattle.tree_sums.proofs.Laws.{ShownRefutes, RefutationsCarry, RefutedIsShown}
 use Rattle.tree_sums.proofs.Bound.{stays}
@@ -86,15 +87,10 @@ ended row e = go (is_contradictory row) refl e where
   go true is e = is
   go false is e = absurd (let k : Some (NotContradictory row) ≡ None = e in cc)
 
--- the sum of terms that refute, part by part
-pub record IsRefuting (vars : ℕ) (rows : List Form) (ts : List Term) : Type 0 where
-  pub name_rows : All (λ t. t.row < length rows) ts
-  pub not_negative : All (λ t. pos 0 ≤ℤ t.times) ts
-  pub negative : weighted_sum (row_part rows the_constant) ts <ℤ pos 0
-  pub no_variable : (i : ℕ) → weighted_sum (row_part rows (the_coefficient i)) ts ≡ pos 0
-
+-- terms that refute show their sum, and it is negative
 pub refuting : (vars : ℕ) (rows : List Form) (ts : List Term) → AreOver vars rows → Refutes vars rows (Sum ts)
-    → IsRefuting vars rows ts
+    → Shows vars rows ts (λ part. weighted_sum (row_part rows part) ts)
+    × IsNegative vars (λ part. weighted_sum (row_part rows part) ts)
 refuting vars rows ts over h =
     refusal_or_none sum_refusal (sum_of vars rows None ts)
     (sym (refusal_sum vars rows ts) ∙ follows_refuted vars rows (Sum ts) h)
@@ -110,35 +106,25 @@ refuting vars rows ts over h =
     let sum = summed vars rows (nothing vars) ts over (length_zeros vars) range in
     let same : sum.0 ≡ total = same_Some sum.0 total (sym sum.1.is ∙ within_is_ideal rows (nothing vars) ts total
     (ok_or_ok (sum_onto rows (nothing vars) ts) Overflow total u.1)) in
-    let b = and_parts (int_lt total.constant (pos 0)) (list_all (λ c. int_eq c (pos 0)) total.coefs) (ended total e) in
-    record {
-      name_rows = range;
-      not_negative = above;
-      negative = omega
-          (arith, ints, ap (λ (f : Form). f.constant) same, sum.1.parts the_constant, int_lt-true total.constant (pos 0) b.0);
-      no_variable = λ i. omega (
-        arith,
-        ints,
-        ap (part_of (the_coefficient i)) same,
-        sum.1.parts (the_coefficient i),
-        nothing_part vars (the_coefficient i),
-        all_zero total.coefs b.1 i,
-      );
-    })
+    let b = and_parts (int_lt total.constant (pos 0)) (list_all (λ c. int_eq c (pos 0)) total.coefs) (ended total e) in (
+      record { name_rows = range; not_negative = above; at_most = omega (arith, ints); same = λ i l. refl },
+      record {
+        negative = omega
+            (arith, ints, ap (λ (f : Form). f.constant) same, sum.1.parts the_constant, int_lt-true total.constant (pos 0) b.0);
+        no_variable = λ i l. omega (
+          arith,
+          ints,
+          ap (part_of (the_coefficient i)) same,
+          sum.1.parts (the_coefficient i),
+          nothing_part vars (the_coefficient i),
+          all_zero total.coefs b.1 i,
+        );
+      },
+    ))
 
 pub refuted_is_shown : RefutedIsShown
 refuted_is_shown vars rows ts over h =
-    let r = refuting vars rows ts over h in (
-      λ part. weighted_sum (row_part rows part) ts,
-      record {
-        name_rows = r.name_rows;
-        not_negative = r.not_negative;
-        at_most = omega (arith, ints);
-        same =
-            λ i l. refl;
-      },
-      record { negative = r.negative; no_variable = λ i l. r.no_variable i },
-    )
+    let r = refuting vars rows ts over h in (λ part. weighted_sum (row_part rows part) ts, r.0, r.1)
 
 -- Refutations carry
 

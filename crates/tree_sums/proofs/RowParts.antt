@@ -7,7 +7,7 @@
 use Rattle.std.proofs.Common.{◌≡◌, ◌==◌, ℕ, zero, suc, ◌+◌, ◌-◌, ◌≤◌, ℤ, pos, ◌+ℤ◌, ◌*ℤ◌, List, [], ◌∷◌, ◌++◌, length}
 use Rattle.std.proofs.Common.{map, replicate, Bool, true, false, cond, refl, sym, ap, ◌∙◌, subst, arith, append_assoc}
 use Rattle.std.proofs.Common.{leb-true}
-use Rattle.std.specs.Prelude.{Option, Some, None, nat_le}
+use Rattle.std.specs.Prelude.{Some, None, nat_le}
 use Rattle.std.specs.List.{list_all}
 use Rattle.std.specs.Option.{option_and_then}
 use Rattle.std.proofs.lemmas.Bool.{le-leb, and_parts, and_from, eq-eqb, cond-true}
@@ -23,7 +23,7 @@ use Rattle.tree_sums.specs.Made.{parts_of}
 use Rattle.tree_sums.proofs.MadeLaws.{MadeHasParts, MadeWidens}
 use Rattle.tree_sums.specs.Parts.{Part, part_of}
 use Rattle.tree_sums.proofs.Ideal.{product_part, sum_part}
-use Rattle.tree_sums.proofs.SmallRows.{widened_length, widened_part}
+use Rattle.tree_sums.proofs.Within.{widened_length, widened_part}
 use Rattle.source_tree.specs.Rows.{RowExpr, Take, Plus, Times, row_form, row_forms}
 
 abbrev zeros : ℕ → List ℤ
@@ -100,8 +100,10 @@ product_widened more k f =
     ap (λ cs. record { constant = f.constant *ℤ k; coefs = cs })
     (products_zeros k f.coefs (more - length f.coefs) ∙ ap (λ n. products k f.coefs ++ zeros n) last)
 
+-- its parts are those of what it was made from, and over more variables it is made too
 record IsAlsoMade (vars more : ℕ) (e : RowExpr) (f : Form) : Type 0 where
   over : length f.coefs ≡ vars
+  parts : (part : Part) → part_of part f ≡ parts_of e part
   wide : row_form more e ≡ Some (widened_form more f)
 
 also_taken : (vars more : ℕ) (form f : Form) (b : Bool) → vars ≤ more → nat_le (length form.coefs) vars ≡ b
@@ -114,6 +116,7 @@ also_taken vars more form f true le e is =
     let shorter : length form.coefs ≤ more = omega (arith, short, le) in
     record {
       over = ap (λ (g : Form). length g.coefs) (sym same) ∙ widened_length form.coefs vars short;
+      parts = λ part. ap (part_of part) (sym same) ∙ widened_part vars form part;
       wide = ap (λ b. cond b (Some (widened_form more form)) None) (le-leb (length form.coefs) more shorter)
           ∙ ap Some (sym (widened_twice vars more form short le) ∙ ap (widened_form more) same);
     }
@@ -131,6 +134,8 @@ also_made vars more (Plus a b) f le is =
     let same : form_sum left right ≡ f = form_in_128_bits_is (form_sum left right) f sum in
     record {
       over = ap (λ (g : Form). length g.coefs) (sym same) ∙ length-sums left.coefs right.coefs even ∙ l.over;
+      parts = λ part. ap (part_of part) (sym same) ∙ sum_part part left right even
+          ∙ (λ i. l.parts part i +ℤ r.parts part i);
       wide = ap (option_and_then
           (λ left. option_and_then (λ right. form_in_128_bits (form_sum left right)) (row_form more b))) l.wide
           ∙ ap (option_and_then (λ right. form_in_128_bits (form_sum (widened_form more left) right))) r.wide
@@ -145,6 +150,7 @@ also_made vars more (Times k e) f le is =
     let same : form_product k form ≡ f = form_in_128_bits_is (form_product k form) f product in
     record {
       over = ap (λ (g : Form). length g.coefs) (sym same) ∙ length-map form.coefs (λ c. c *ℤ k) ∙ m.over;
+      parts = λ part. ap (part_of part) (sym same) ∙ product_part part k form ∙ ap (λ z. z *ℤ k) (m.parts part);
       wide = ap (option_and_then (λ form. form_in_128_bits (form_product k form))) m.wide
           ∙ ap form_in_128_bits (product_widened more k form)
           ∙ widened_fits more (form_product k form) (fits_where (form_product k form) f product)
@@ -164,53 +170,18 @@ made_widens vars more (e ∷ es) rows le is =
     ∙ ap (λ rows. Some (map (widened_form more) rows)) (same_Some (row ∷ rest) rows whole)))
 
 -- the parts of a row that was made
-taken_parts : (vars : ℕ) (form f : Form) (b : Bool) → nat_le (length form.coefs) vars ≡ b
-    → cond b (Some (widened_form vars form)) None ≡ Some f
-    → (length f.coefs ≡ vars) × ((part : Part) → part_of part f ≡ part_of part form)
-taken_parts vars form f false e is = absurd (let g : None ≡ Some f = is in cc)
-taken_parts vars form f true e is =
-    let short : length form.coefs ≤ vars = leb-true (length form.coefs) vars e in
-    let same : widened_form vars form ≡ f = same_Some (widened_form vars form) f is in (
-      ap (λ (g : Form). length g.coefs) (sym same) ∙ widened_length form.coefs vars short,
-      λ part. ap (part_of part) (sym same) ∙ widened_part vars form part,
-    )
-
 pub made_has_parts : MadeHasParts
-made_has_parts vars (Take form) f is = taken_parts vars form f (nat_le (length form.coefs) vars) refl is
-made_has_parts vars (Plus a b) f is =
-    option_and_then_some (λ left. option_and_then (λ right. form_in_128_bits (form_sum left right)) (row_form vars b))
-    (row_form vars a) f is
-    (λ left is_left is'. option_and_then_some (λ right. form_in_128_bits (form_sum left right)) (row_form vars b) f is'
-    (λ right is_right sum.
-    let l = made_has_parts vars a left is_left in
-    let r = made_has_parts vars b right is_right in
-    let even : length left.coefs ≡ length right.coefs = l.0 ∙ sym r.0 in
-    let same : form_sum left right ≡ f = form_in_128_bits_is (form_sum left right) f sum in (
-      ap (λ (g : Form). length g.coefs) (sym same) ∙ length-sums left.coefs right.coefs even ∙ l.0,
-      λ part. ap (part_of part) (sym same) ∙ sum_part part left right even
-          ∙ ap (λ z. z +ℤ part_of part right) (l.1 part) ∙ ap (λ z. parts_of a part +ℤ z) (r.1 part),
-    )))
-made_has_parts vars (Times k e) f is =
-    option_and_then_some (λ form. form_in_128_bits (form_product k form)) (row_form vars e) f is
-    (λ form is_form product.
-    let m = made_has_parts vars e form is_form in
-    let same : form_product k form ≡ f = form_in_128_bits_is (form_product k form) f product in (
-      ap (λ (g : Form). length g.coefs) (sym same) ∙ length-map form.coefs (λ c. c *ℤ k) ∙ m.0,
-      λ part. ap (part_of part) (sym same) ∙ product_part part k form ∙ ap (λ z. z *ℤ k) (m.1 part),
-    ))
+made_has_parts vars e f is = let m = also_made vars vars e f (omega arith) is in (m.over, m.parts)
 
 -- rows that were made are over their variables
 pub AreOver-row_forms : (vars : ℕ) (es : List RowExpr) (rows : List Form) → row_forms vars es ≡ Some rows
     → AreOver vars rows
-AreOver-row_forms vars [] rows e = subst (AreOver vars) (same_Some [] rows e) refl
+AreOver-row_forms vars [] rows is = subst (AreOver vars) (same_Some [] rows is) refl
 AreOver-row_forms vars (e ∷ es) rows is =
-    go (AreOver-row_forms vars es) (row_form vars e) (row_forms vars es) refl refl is where
-      go : ((rest : List Form) → row_forms vars es ≡ Some rest → AreOver vars rest)
-          → (o : Option Form) (p : Option (List Form)) → row_form vars e ≡ o → row_forms vars es ≡ p
-          → option_and_then (λ row. option_and_then (λ rest. Some (row ∷ rest)) p) o ≡ Some rows → AreOver vars rows
-      go later None p f g h = absurd (let k : None ≡ Some rows = h in cc)
-      go later (Some row) None f g h = absurd (let k : None ≡ Some rows = h in cc)
-      go later (Some row) (Some rest) f g h =
-          subst (AreOver vars) (same_Some (row ∷ rest) rows h)
-          (and_from (length row.coefs == vars) (all_over vars rest)
-          (eq-eqb (length row.coefs) vars (made_has_parts vars e row f).0) (later rest g))
+    option_and_then_some (λ row. option_and_then (λ rest. Some (row ∷ rest)) (row_forms vars es))
+    (row_form vars e) rows is
+    (λ row is_row is'. option_and_then_some (λ rest. Some (row ∷ rest)) (row_forms vars es) rows is'
+    (λ rest is_rest whole.
+    subst (AreOver vars) (same_Some (row ∷ rest) rows whole)
+    (and_from (length row.coefs == vars) (all_over vars rest)
+    (eq-eqb (length row.coefs) vars (made_has_parts vars e row is_row).0) (AreOver-row_forms vars es rest is_rest))))

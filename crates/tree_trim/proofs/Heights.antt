@@ -5,12 +5,11 @@
 -- holds at any row, named or not, and says nothing of what the tree is worth without it. Of a Test one branch is left,
 -- which is lower than the Test, or the Test itself; it may be lower by more than one, so this is a bound and no
 -- equality.
-use Rattle.std.proofs.Common.{◌≡◌, ◌+◌, ◌≤◌, ℕ, ℤ, List, true, false, refl, sym, ap, subst, ◌∙◌, inl, inr, arith}
+use Rattle.std.proofs.Common.{◌≡◌, ◌+◌, ◌≤◌, ℕ, ℤ, refl, sym, ap, subst, ◌∙◌, inl, inr, arith}
 use Rattle.std.specs.Prelude.{max}
 use Rattle.std.proofs.lemmas.Bool.{cases_Bool}
 use Rattle.std.proofs.Math.Nat.{le-max_left, le-max_right}
 use Rattle.affine_core.specs.declared.form.Form.{Form}
-use Rattle.int_polyhedra.specs.declared.system.Proof.{Proof}
 use Rattle.tree_graphs.specs.Heights.{height_of, height_step}
 use Rattle.tree_graphs.proofs.Heights.{height_dead, height_test, height_writer, height_zero}
 use Rattle.source_tree.specs.declared.tree.Tree.{Tree}
@@ -19,7 +18,7 @@ use Rattle.source_tree.specs.declared.tree.Tree.TheOpen as layer
 use Rattle.source_tree.specs.declared.tree.Tree.TheVariants.{Writer, Zero, Dead}
 use Rattle.source_tree.specs.declared.tree.Tree.TheViews.{Test, Divides, roll-Tree, rolls-Test, rolls-Divides}
 use Rattle.source_tree.specs.declared.tree.Tree.TheViews.{rolls-Writer, rolls-Zero, rolls-Dead}
-use Rattle.tree_trim.specs.Proofs.{proof_without}
+use Rattle.tree_trim.specs.Renumbering.{proof_without}
 use Rattle.tree_trim.specs.Trees.{branch_or_test, proofs_without, tree_names_row, tree_step, tree_without}
 
 height_divides : (form : Form) (d : ℤ) (a b : Tree) (tree : Tree) → tree ≡ Divides form d a b

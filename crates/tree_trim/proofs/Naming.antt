@@ -1,4 +1,4 @@
--- What each kind of proof and of tree names, and what it is once a row is away.
+-- What each kind of proof and of tree names, and what it is once its rows have other numbers.
 --
 -- Both are folds, and the fold of something built is a step over the folds of its parts. So each lemma takes what is
 -- built back to its layer and reads one case of the step there. None is an induction: those over a proof and over a
@@ -17,8 +17,27 @@ use Rattle.source_tree.specs.declared.tree.Tree.TheOpen as open_tree
 use Rattle.source_tree.specs.declared.tree.Tree.TheFolds.{fold-roll-Tree}
 use Rattle.source_tree.specs.declared.tree.Tree.TheVariants.{Writer, Zero, Dead}
 use Rattle.source_tree.specs.declared.tree.Tree.TheViews.{Test, rolls-Test, rolls-Writer, rolls-Zero, rolls-Dead}
-use Rattle.tree_trim.specs.Proofs.{names_row, naming_step, proof_step, proof_without, terms_name, terms_without}
+use Rattle.tree_trim.specs.Proofs.{names_row, naming_step, terms_name}
+use Rattle.tree_trim.specs.Renumbering.{proof_by, proof_without, step_by, terms_by}
+use Rattle.tree_trim.specs.declared.renumbering.Renumbering.{Renumbering}
 use Rattle.tree_trim.specs.Trees.{proofs_name, proofs_without, tree_names_row, tree_naming_step, tree_step, tree_without}
+
+module _ (r : Renumbering) where
+  pub renumbered_sum : (terms : List Term) → proof_by r (Sum terms) ≡ Sum (terms_by r terms)
+  renumbered_sum terms =
+      ap (proof_by r) (sym (rolls-Sum terms)) ∙ fold-roll-Proof Proof (step_by r) (open_proof.Sum terms)
+
+  pub renumbered_cut : (d : ℤ) (terms : List Term) (rest : Proof)
+      → proof_by r (Cut d terms rest) ≡ Cut d (terms_by r terms) (proof_by r rest)
+  renumbered_cut d terms rest =
+      ap (proof_by r) (sym (rolls-Cut d terms rest))
+      ∙ fold-roll-Proof Proof (step_by r) (open_proof.Cut d terms rest)
+
+  pub renumbered_split : (form : Form) (above below : Proof)
+      → proof_by r (Split form above below) ≡ Split form (proof_by r above) (proof_by r below)
+  renumbered_split form above below =
+      ap (proof_by r) (sym (rolls-Split form above below))
+      ∙ fold-roll-Proof Proof (step_by r) (open_proof.Split form above below)
 
 module _ (k : ℕ) where
   pub names_sum : (terms : List Term) → names_row k (Sum terms) ≡ terms_name k terms
@@ -36,22 +55,6 @@ module _ (k : ℕ) where
   names_split form above below =
       ap (names_row k) (sym (rolls-Split form above below))
       ∙ fold-roll-Proof Bool (naming_step k) (open_proof.Split form above below)
-
-  pub without_sum : (terms : List Term) → proof_without k (Sum terms) ≡ Sum (terms_without k terms)
-  without_sum terms =
-      ap (proof_without k) (sym (rolls-Sum terms)) ∙ fold-roll-Proof Proof (proof_step k) (open_proof.Sum terms)
-
-  pub without_cut : (d : ℤ) (terms : List Term) (rest : Proof)
-      → proof_without k (Cut d terms rest) ≡ Cut d (terms_without k terms) (proof_without k rest)
-  without_cut d terms rest =
-      ap (proof_without k) (sym (rolls-Cut d terms rest))
-      ∙ fold-roll-Proof Proof (proof_step k) (open_proof.Cut d terms rest)
-
-  pub without_split : (form : Form) (above below : Proof)
-      → proof_without k (Split form above below) ≡ Split form (proof_without k above) (proof_without k below)
-  without_split form above below =
-      ap (proof_without k) (sym (rolls-Split form above below))
-      ∙ fold-roll-Proof Proof (proof_step k) (open_proof.Split form above below)
 
   pub names_test : (form : Form) (above below : Tree)
       → tree_names_row k (Test form above below) ≡ (tree_names_row k above || tree_names_row k below)

@@ -6,7 +6,7 @@
 -- stand behind, so what they add is the same row at the same end, and the rows before the one that is away never change:
 -- that is why its number is the same in all steps of a proof.
 use Rattle.std.proofs.Common.{◌≡◌, ◌==◌, ◌+◌, ◌-◌, ◌≤◌, ◌<◌, ℕ, zero, suc, ◌⊎◌, inl, inr, ℤ, pos, ◌≤ℤ◌, List, []}
-use Rattle.std.proofs.Common.{◌∷◌, ◌++◌, length, map, Bool, false, refl, sym, ap, ◌∙◌, subst, arith}
+use Rattle.std.proofs.Common.{◌∷◌, ◌++◌, length, false, refl, sym, ap, ◌∙◌, subst, arith}
 use Rattle.std.specs.Prelude.{Option, All, slice_get, unsigned_abs}
 use Rattle.std.specs.Option.{option_and_then}
 use Rattle.std.proofs.lemmas.Bool.{cases_order, or_parts, eqb-false}
@@ -18,11 +18,13 @@ use Rattle.affine_core.specs.Within.{form_in_128_bits}
 use Rattle.int_polyhedra.specs.declared.system.Proof.{Proof}
 use Rattle.int_polyhedra.specs.declared.system.Term.{Term}
 use Rattle.int_polyhedra.specs.Rules.{by_cut, by_split, by_sum, IsSumOf, Refutes}
-use Rattle.int_polyhedra.specs.Steps.{quotient_row, sum_onto, sum_with}
+use Rattle.int_polyhedra.specs.Steps.{quotient_row, sum_onto}
 use Rattle.plain_data.proofs.Lists.{slice_get-append_right}
 use Rattle.plain_data.proofs.Options.{option_and_then-same}
-use Rattle.tree_trim.specs.Proofs.{names_row, number_without, proof_without, term_without, terms_name, terms_without}
-use Rattle.tree_trim.proofs.Naming.{names_cut, names_split, names_sum, without_cut, without_split, without_sum}
+use Rattle.tree_trim.specs.Proofs.{names_row, terms_name}
+use Rattle.tree_trim.specs.Renumbering.{number_without, proof_without, term_without, terms_without}
+use Rattle.tree_trim.specs.declared.renumbering.Renumbering.TheVariants.{Without}
+use Rattle.tree_trim.proofs.Naming.{names_cut, names_split, names_sum, renumbered_cut, renumbered_split, renumbered_sum}
 
 -- Numbers of rows
 
@@ -124,7 +126,7 @@ refutes_without vars before row _ _ (by_sum rows p terms sum is s end) after at 
     let k : ℕ = length before in
     let n : terms_name k terms ≡ false = sym (names_sum k terms) ∙ ap (names_row k) (sym is) ∙ none in
     by_sum (before ++ after) (proof_without k p) (terms_without k terms) sum
-    (ap (proof_without k) is ∙ without_sum k terms)
+    (ap (proof_without k) is ∙ renumbered_sum (Without k) terms)
     (sum_without before after row vars terms sum n (subst (λ rows. IsSumOf vars rows terms sum) at s)) end
 refutes_without vars before row _ _ (by_cut rows p d terms rest sum is h s div more) after at none =
     let k : ℕ = length before in
@@ -132,7 +134,7 @@ refutes_without vars before row _ _ (by_cut rows p d terms rest sum is h s div m
     let n = or_parts (terms_name k terms) (names_row k rest)
     (sym (names_cut k d terms rest) ∙ ap (names_row k) (sym is) ∙ none) in
     by_cut (before ++ after) (proof_without k p) d (terms_without k terms) (proof_without k rest) sum
-    (ap (proof_without k) is ∙ without_cut k d terms rest) h
+    (ap (proof_without k) is ∙ renumbered_cut (Without k) d terms rest) h
     (sum_without before after row vars terms sum n.0 (subst (λ rows. IsSumOf vars rows terms sum) at s)) div
     (subst (λ rows. Refutes vars rows (proof_without k rest)) (sym (append_assoc before after new))
     (refutes_without vars before row (rows ++ new) rest more (after ++ new)
@@ -142,7 +144,7 @@ refutes_without vars before row _ _ (by_split rows p form other above below is o
     let n = or_parts (names_row k above) (names_row k below)
     (sym (names_split k form above below) ∙ ap (names_row k) (sym is) ∙ none) in
     by_split (before ++ after) (proof_without k p) form other (proof_without k above) (proof_without k below)
-    (ap (proof_without k) is ∙ without_split k form above below) over neg
+    (ap (proof_without k) is ∙ renumbered_split (Without k) form above below) over neg
     (subst (λ rows. Refutes vars rows (proof_without k above)) (sym (append_assoc before after (form ∷ [])))
     (refutes_without vars before row (rows ++ form ∷ []) above first (after ++ form ∷ [])
     (ap (λ rows. rows ++ form ∷ []) at ∙ append_assoc before (row ∷ after) (form ∷ [])) n.0))

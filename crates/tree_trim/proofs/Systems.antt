@@ -5,7 +5,7 @@
 -- loses a row of its context where that context loses it.
 use Rattle.std.proofs.Common.{◌≡◌, ◌==◌, ℕ, suc, List, [], ◌∷◌, ◌++◌, length, map, Bool, true, false, cond, refl, sym}
 use Rattle.std.proofs.Common.{ap, ◌∙◌, subst}
-use Rattle.std.specs.Prelude.{Some, None, Option}
+use Rattle.std.specs.Prelude.{Some}
 use Rattle.std.specs.List.{flat_map}
 use Rattle.std.specs.Option.{option_and_then}
 use Rattle.std.proofs.lemmas.Bool.{or_parts}
@@ -23,7 +23,8 @@ use Rattle.source_tree.specs.Rows.{RowExpr, RowSystem, below_zero, row_form, row
 use Rattle.source_tree.specs.Systems.{Context, Occurrence, every, reader_place, writer_place, with_rows, with_write_at}
 use Rattle.source_tree.specs.Systems.{after_systems, cell_systems, dead_systems, outside_systems, same_systems}
 use Rattle.source_tree.specs.Systems.{write_systems}
-use Rattle.tree_trim.specs.Proofs.{names_row, proof_without}
+use Rattle.tree_trim.specs.Proofs.{names_row}
+use Rattle.tree_trim.specs.Renumbering.{proof_without}
 use Rattle.tree_trim.specs.Trees.{proofs_name, proofs_without}
 use Rattle.tree_trim.proofs.Refuting.{refutes_without}
 

@@ -4,9 +4,9 @@
 -- is away stands at the same place in all of them: by induction over the tree each leaf's proofs refute its systems
 -- without the row. Forms, their sizes and the order of the leaves don't change. Such a tree is checked in each context
 -- whose rows are made as these, and a Test's row can be made as itself.
-use Rattle.std.proofs.Common.{◌≡◌, ◌+◌, ◌^◌, ℕ, suc, List, [], ◌∷◌, ◌++◌, length, map, Bool, true, false, ◌||◌, cond}
+use Rattle.std.proofs.Common.{◌≡◌, ◌+◌, ◌^◌, ℕ, suc, List, [], ◌∷◌, ◌++◌, length, map, Bool, true, false, cond}
 use Rattle.std.proofs.Common.{refl, sym, ap, ◌∙◌, subst, arith}
-use Rattle.std.specs.Prelude.{Some, None, All, IfOk}
+use Rattle.std.specs.Prelude.{Some, All}
 use Rattle.std.specs.Option.{option_and_then}
 use Rattle.std.proofs.lemmas.Bool.{or_from, or_parts}
 use Rattle.std.proofs.lemmas.List.{append-nil, append_assoc}
@@ -31,10 +31,12 @@ use Rattle.source_tree.specs.Rows.{RowExpr, RowSystem, Take, below_zero, row_for
 use Rattle.source_tree.specs.Systems.{dead_systems, every, test_no, test_yes, Context}
 use Rattle.source_tree.specs.declared.tree.Tree.{Tree}
 use Rattle.source_tree.specs.declared.tree.Tree.TheViews.{Test}
-use Rattle.tree_trim.specs.Proofs.{names_row, proof_without, term_without, terms_without}
+use Rattle.tree_trim.specs.Proofs.{names_row}
+use Rattle.tree_trim.specs.Renumbering.{proof_without, terms_without}
+use Rattle.tree_trim.specs.declared.renumbering.Renumbering.TheVariants.{Without}
 use Rattle.tree_trim.specs.Sides.{AreJoinedSides, IsJoinedBranch}
 use Rattle.tree_trim.specs.Trees.{branch_or_test, proofs_name, proofs_without, tree_names_row, tree_without}
-use Rattle.tree_trim.proofs.Naming.{names_dead, names_test, names_writer, names_zero, without_dead, without_sum}
+use Rattle.tree_trim.proofs.Naming.{names_dead, names_test, names_writer, names_zero, without_dead, renumbered_sum}
 use Rattle.tree_trim.proofs.Naming.{without_test, without_writer, without_zero}
 use Rattle.tree_trim.proofs.Systems.{dead_behind, no_rows, behind, place_behind, systems_without, zero_behind, AreBehind}
 
@@ -43,7 +45,7 @@ sums_without k [] sums = All-nil IsSum
 sums_without k (proof ∷ proofs) sums =
     let h : IsSum proof = All-head IsSum proof proofs sums in
     All-cons IsSum (proof_without k proof) (proofs_without k proofs)
-    (terms_without k h.0, ap (proof_without k) h.1 ∙ without_sum k h.0)
+    (terms_without k h.0, ap (proof_without k) h.1 ∙ renumbered_sum (Without k) h.0)
     (sums_without k proofs (All-tail IsSum proof proofs sums))
 
 abbrev rows_over : ℕ → List RowExpr → Context
@@ -82,13 +84,23 @@ module _ (pairs : List ReadAndWrite) (before : List RowExpr) (e : RowExpr) where
       (sym (append_assoc before after other))
       (checked_without (test_no c form) b second (after ++ other)
       (ap (λ rows. rows ++ other) at ∙ append_assoc before (e ∷ after) other) n.1))
-  checked_without _ _ (at_writer c tree o place proofs is there deep over within refuted sums) after at none =
+  checked_without _ _ (at_writer c tree number place proofs is point) after at none =
       let n : proofs_name k proofs ≡ false =
-      sym (names_writer k o.write.number place proofs) ∙ ap (tree_names_row k) (sym is) ∙ none in
-      at_writer (rows_over c.vars (before ++ after)) (tree_without k tree) o place (proofs_without k proofs)
-      (ap (tree_without k) is ∙ without_writer k o.write.number place proofs) there deep over within
-      (leaf_without (place_systems every pairs o place) (place_behind pairs o place) c proofs refuted after at n)
-      (sums_without k proofs sums)
+      sym (names_writer k number place proofs) ∙ ap (tree_names_row k) (sym is) ∙ none in
+      let o : ReadAndWrite = point.pair in
+      at_writer (rows_over c.vars (before ++ after)) (tree_without k tree) number place (proofs_without k proofs)
+      (ap (tree_without k) is ∙ without_writer k number place proofs)
+      (record {
+        pair = o;
+        among = point.among;
+        number_is = point.number_is;
+        deep = point.deep;
+        over = point.over;
+        within = point.within;
+        refuted = leaf_without (place_systems every pairs o place) (place_behind pairs o place) c proofs point.refuted
+            after at n;
+        sums = sums_without k proofs point.sums;
+      })
   checked_without _ _ (at_zero c tree proofs is refuted sums) after at none =
       let n : proofs_name k proofs ≡ false =
       sym (names_zero k proofs) ∙ ap (tree_names_row k) (sym is) ∙ none in

@@ -1,4 +1,5 @@
 pub mod Proofs
+pub mod Renumbering
 pub mod Trees
 pub mod Parts
 pub mod Sides

@@ -8,7 +8,8 @@ use Rattle.source_tree.specs.declared.tree.Tree.TheOpen as layer
 use Rattle.source_tree.specs.declared.tree.Tree.TheFolds.{fold-Tree}
 use Rattle.source_tree.specs.declared.tree.Tree.TheVariants.{Writer, Zero, Dead}
 use Rattle.source_tree.specs.declared.tree.Tree.TheViews.{Test, Divides}
-use Rattle.tree_trim.specs.Proofs.{names_row, proof_without}
+use Rattle.tree_trim.specs.Proofs.{names_row}
+use Rattle.tree_trim.specs.Renumbering.{proof_without}
 
 -- whether one of the proofs names row k
 abbrev pub proofs_name : ℕ → List Proof → Bool

@@ -5,6 +5,8 @@
 mod branch;
 mod parts;
 mod refutation;
+mod renumbering;
 
 pub use branch::{branch_without, tree_names_row, tree_without, trim_test};
-pub use refutation::{names_row, proof_without};
+pub use refutation::names_row;
+pub use renumbering::{Renumbering, renumbered};

@@ -3,7 +3,7 @@ ghost use Rattle.tree_trim.specs.Trees.{proofs_without};
 ghost use Rattle.tree_trim.specs.Parts.{ArePartsOf};
 ghost use Rattle.tree_trim.specs.declared.parts.Parts.TheVariants.{Leaf as LeafOf};
 
-use crate::refutation::proof_without;
+use crate::renumbering::{Renumbering, renumbered};
 use affine_core::{KeptForm, KeptNumber};
 use int_polyhedra::Proof;
 use plain_data::{Boxed, Items};
@@ -25,7 +25,7 @@ fn proofs_without(alloc: Global, proofs: Items<Proof>, row: u32) -> Result<Items
 {
     let mut others = Items::new(alloc);
     for proof in proofs.into_vec() {
-        others.push(proof_without(alloc, proof, row)?)?;
+        others.push(renumbered(alloc, proof, Renumbering::Without(row))?)?;
     }
     Ok(others)
 }
@@ -52,6 +52,9 @@ pub fn parts_of(alloc: Global, tree: Boxed<Tree>, row: u32) -> Result<Parts, All
             }
         },
         Tree::Zero(proofs) => leaf(alloc, Tree::Zero(proofs_without(alloc, proofs, row)?)),
-        Tree::Dead(proof) => leaf(alloc, Tree::Dead(proof_without(alloc, proof, row)?)),
+        Tree::Dead(proof) => {
+            let proof = renumbered(alloc, proof, Renumbering::Without(row))?;
+            leaf(alloc, Tree::Dead(proof))
+        }
     }
 }

@@ -10,9 +10,9 @@ use Rattle.affine_core.specs.Affine.{widened_form}
 use Rattle.last_writer.proofs.JointTrees.{answers_more, divides_checked, few_loops, few_rows, made_more, no_checked, no_in}
 use Rattle.last_writer.proofs.JointTrees.{answers_no, small_at, vars_below}
 use Rattle.tree_graphs.specs.Contexts.{IsMadeAs}
-use Rattle.last_writer.specs.Answers.{answered_context}
+use Rattle.stride_trees.specs.Answers.{answered_context}
 use Rattle.stride_trees.specs.Answers.{below_answer}
-use Rattle.last_writer.specs.Leaves.{context_of}
+use Rattle.stride_trees.specs.Leaves.{context_of}
 use Rattle.source_tree.specs.Checked.{IsCheckedIn}
 use Rattle.source_tree.specs.Systems.{every, root_context}
 use Rattle.source_tree.specs.References.{occurrence_of}
@@ -136,7 +136,7 @@ answered_next-answered-requires t c =
     ap length more ∙ length-append w.answers.now (answer ∷ []) in (
       omega (arith, within, one),
       (
-        answers_more w _ answer h within refl refl refl refl more,
+        answers_more w _ answer h within refl refl refl refl more refl,
         (
           made_more w c.as_slice.result.now test answer c.in_ok-next.next at more
               (c.in_ok-next.ensures.made (context_of w) c.requires.made),

@@ -7,12 +7,12 @@ use Rattle.std.proofs.lemmas.List.Elements.{All-head, All-tail}
 use Rattle.std.proofs.lemmas.Result.{on_ok_weaker}
 use Rattle.tree_order.specs.Reads.{pair_in, pairs_with}
 use Rattle.last_writer.proofs.JointTrees.{told_places}
-use Rattle.last_writer.proofs.LeafConversion.{refused, zip_count}
+use Rattle.stride_trees.proofs.LeafConversion.{refused, zip_count}
 use Rattle.last_writer.proofs.QuotientWrites.{one_more, pairs_refused, pairs_told, problem_pair}
-use Rattle.last_writer.specs.Leaves.{told_pair, told_pairs, vars_of}
-use Rattle.last_writer.specs.Writers.{IsPlaceOf, IsWriterOf}
-use Rattle.last_writer.specs.declared.leaves.Answered.{Answered}
-use Rattle.last_writer.specs.declared.writers.Writer.{Writer}
+use Rattle.stride_trees.specs.Leaves.{told_pair, told_pairs, vars_of}
+use Rattle.stride_trees.specs.Writers.{IsPlaceOf, IsWriterOf}
+use Rattle.stride_trees.specs.declared.leaves.Answered.{Answered}
+use Rattle.stride_trees.specs.declared.writers.Writer.{Writer}
 use Rattle.stride_trees.specs.Problem.{IsToldProblem}
 use Rattle.stride_trees.specs.Strides.{ArePlaces}
 use Rattle.last_writer.proofs.source.+push_problems.Goals as goal

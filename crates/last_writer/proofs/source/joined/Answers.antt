@@ -1,9 +1,9 @@
 -- The facts are what Cuts add to the context, and stand behind its rows. The answers are the same, so the context below them is.
-use Rattle.std.proofs.Common.{◌≡◌, ◌++◌, length, refl, sym, ap, ◌∙◌, subst, arith, length-append}
+use Rattle.std.proofs.Common.{◌++◌, length, refl, sym, ap, ◌∙◌, subst, arith, length-append}
 use Rattle.int_polyhedra.specs.declared.system.System.{System}
 use Rattle.int_polyhedra.specs.Systems.{AreOver}
 use Rattle.last_writer.proofs.JointTrees.{add_facts, facts_made, facts_small, few_rows, same_answered}
-use Rattle.last_writer.specs.Leaves.{context_of}
+use Rattle.stride_trees.specs.Leaves.{context_of}
 use Rattle.tree_facts.specs.Facts.{AddFacts}
 use Rattle.last_writer.proofs.source.joined.Goals as goal
 
@@ -11,7 +11,7 @@ pub tests_in-tests-requires : goal.tests_in-tests-requires
 tests_in-tests-requires c = omega (arith, few_rows c.args.w.now c.requires.answered)
 
 pub joined_in-requires-clause-answered : goal.joined_in-requires-clause-answered
-joined_in-requires-clause-answered c = same_answered c.args.w.now _ c.requires.answered refl refl refl refl refl
+joined_in-requires-clause-answered c = same_answered c.args.w.now _ c.requires.answered refl refl refl refl refl refl
 
 pub joined_in-requires-clause-facts : goal.joined_in-requires-clause-facts
 joined_in-requires-clause-facts c =

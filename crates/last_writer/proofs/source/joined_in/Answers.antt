@@ -1,16 +1,11 @@
 -- The writes that are told are problems of differences in this context, so they can be joined, and the joined tree is one of the
 -- nest once its proofs are those for all writers.
-use Rattle.std.proofs.Common.{◌≡◌, [], length, sym, ap, ◌∙◌, subst, arith}
-use Rattle.std.proofs.lemmas.List.{append-nil}
+use Rattle.std.proofs.Common.{length, sym, ap, ◌∙◌, subst, arith}
 use Rattle.std.proofs.lemmas.Result.{IfOk-weaker}
 use Rattle.int_polyhedra.specs.declared.system.System.{System}
-use Rattle.last_writer.proofs.JointTrees.{below_here, joined_below, pairs_joined, read_joined}
+use Rattle.last_writer.proofs.JointTrees.{all_answered, all_checked, all_joined, below_here, joined_below, pairs_joined, read_joined}
 use Rattle.stride_trees.specs.Answers.{HasSmallRows}
-use Rattle.last_writer.specs.Leaves.{context_of}
 use Rattle.last_writer.proofs.source.joined_in.Goals as goal
-use Rattle.source_tree.specs.Checked.{IsCheckedIn}
-use Rattle.source_tree.specs.References.{occurrence_of}
-use Rattle.source_tree.specs.Systems.{every}
 
 pub push_problems-requires-clause-writers : goal.push_problems-requires-clause-writers
 push_problems-requires-clause-writers c = c.requires.answered.writers.each
@@ -39,7 +34,7 @@ converted-requires-clause-tree c =
     let below = below_here w c.args.there.now c.len.result c.len.ensures c.requires.all c.requires.made c.requires.rows in
     let checked = joined_below w r c.args.there.now c.in_ok-tree.tree c.requires.made read.context pairs
     c.in_ok-tree.ensures.joined in
-    record { facts = c.requires.facts; rest = []; below = below; checked = checked }
+    all_joined w c.len.result c.in_ok-tree.tree c.requires.answered c.requires.facts below checked
 
 pub returns : goal.returns
 returns c =
@@ -53,9 +48,10 @@ returns c =
     let checked = joined_below w r c.args.there.now c.in_ok-tree.tree c.requires.made read.context pairs
     c.in_ok-tree.ensures.joined in
     IfOk-weaker c.converted.result _ _ (λ own converts.
-    subst (λ c. IsCheckedIn w.nest.now (occurrence_of w.read) every c own)
-    (ap (λ rows. record { vars = (context_of w).vars; rows = rows }) (append-nil (context_of w).rows))
-    (converts [] below checked)) c.converted.ensures
+    all_checked w c.len.result c.in_ok-tree.tree own c.requires.answered below checked converts) c.converted.ensures
+
+pub converted-requires-clause-answered : goal.converted-requires-clause-answered
+converted-requires-clause-answered c = all_answered c.args.w.now c.requires.answered
 
 pub converted-requires-clause-here : goal.converted-requires-clause-here
 converted-requires-clause-here c =

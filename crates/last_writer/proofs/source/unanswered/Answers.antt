@@ -4,4 +4,4 @@ use Rattle.last_writer.proofs.source.unanswered.Goals as goal
 
 pub returns-clause-answered : goal.returns-clause-answered
 returns-clause-answered c =
-    begun _ c.args.nest.now c.args.read.now refl refl c.requires.asked c.requires.writers refl
+    begun _ c.args.nest.now c.args.read.now refl refl c.requires.asked c.requires.writers refl refl

@@ -1,7 +1,7 @@
 use Rattle.std.proofs.Common.{◌≡◌, ◌+◌, ◌∷◌, length, sym, ap, subst, rules, arith}
 use Rattle.std.proofs.lemmas.Option.{IfSome_then}
 use Rattle.last_writer.proofs.WriterLists.{test_behind, test_here}
-use Rattle.last_writer.specs.Writers.{IsTestAt}
+use Rattle.stride_trees.specs.Writers.{IsTestAt}
 use Rattle.last_writer.proofs.writers.+place_among.Goals as goal
 
 pub place_among-requires : goal.place_among-requires

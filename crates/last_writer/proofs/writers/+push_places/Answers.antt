@@ -1,13 +1,16 @@
 use Rattle.std.proofs.Common.{◌≡◌, ◌≤ℤ◌, ◌∷◌, [], pos, length, sym, ap, subst, rules, arith, length-append}
-use Rattle.std.specs.Prelude.{All}
+use Rattle.std.specs.Prelude.{All, Err, Ok, OnOk, Result}
 use Rattle.std.proofs.lemmas.List.{nil_from_length}
 use Rattle.std.proofs.lemmas.List.Elements.{All-head, All-tail}
 use Rattle.std.proofs.lemmas.Result.{on_ok_weaker}
 use Rattle.last_writer.proofs.WriterLists.{adds_more, adds_none, places_more, places_none}
-use Rattle.last_writer.proofs.ProofSteps.{on_ok_both}
 use Rattle.last_writer.specs.Writers.{AddsPlaces, AddsTests}
 use Rattle.stride_trees.specs.declared.divisions.Division.{Division}
 use Rattle.last_writer.proofs.writers.+push_places.Goals as goal
+
+on_ok_both : {T E : Type 0} (P Q : Type 0) (r : Result T E) → OnOk r P → OnOk r Q → OnOk r (P × Q)
+on_ok_both P Q (Ok x) p q = (p, q)
+on_ok_both P Q (Err e) p q = tt
 
 abbrev IsPositive : Division → Type 0
 IsPositive d = pos 1 ≤ℤ d.divisor

@@ -6,7 +6,8 @@ use Rattle.std.proofs.lemmas.Result.{on_ok_weaker}
 use Rattle.tree_order.specs.Candidates.{levels_before}
 use Rattle.last_writer.proofs.StatementWrites.{says_before, says_not, strided_at}
 use Rattle.last_writer.proofs.WriterLists.{few_of, left_out, one_writer, writers_none}
-use Rattle.last_writer.specs.Writers.{AddsTests, AreWriters, IsWriterOf}
+use Rattle.stride_trees.specs.Writers.{IsWriterOf}
+use Rattle.last_writer.specs.Writers.{AddsTests, AreWriters}
 use Rattle.source_tree.specs.Systems.{with_write}
 use Rattle.source_tree.specs.References.{occurrence_of}
 use Rattle.tree_cuts.specs.Class.{stride_count, writes_strides}

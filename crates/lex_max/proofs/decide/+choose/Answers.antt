@@ -21,13 +21,14 @@ use Rattle.lex_max.proofs.ZeroLeaves.{answer_wider, context_less}
 use Rattle.tree_sums.specs.Parts.{IsWithin}
 use Rattle.tree_sums.proofs.Within.{IsWithin-weaker}
 use Rattle.source_tree.specs.declared.tree.Tree.TheViews.{Test}
+use Rattle.lex_max.proofs.Ready.{ready_of}
 use Rattle.lex_max.proofs.decide.+choose.Goals as goal
 
 -- The forms of a variable are used up
 
 pub choose-choose_next-requires : goal.choose-choose_next-requires
 choose-choose_next-requires t c =
-    let w = c.args.w.now in
+    let w = c.args.graph.now.writes in
     let edges = c.args.graph.now.edges.now in
     let bounds = c.args.graph.now.bounds.now in
     let context = c.args.context.now in
@@ -35,13 +36,10 @@ choose-choose_next-requires t c =
     let none : c.args.forms.now ≡ [] = nil_from_length c.args.forms.now c.in_default.ensures.cases in (
       omega (arith, ap length none),
       (
-        c.requires.ready,
-        (
-          context_less w context (choices_left [] more) (choices_left c.args.forms.now more)
-              (omega (arith, ap length none)) c.requires.context,
-          subst (λ forms. IsChoosing (depth_of_write w) bounds edges context forms more c.args.choice.now
-              c.args.choices.now) none c.requires.choosing,
-        ),
+        context_less w context (choices_left [] more) (choices_left c.args.forms.now more)
+            (omega (arith, ap length none)) c.requires.context,
+        subst (λ forms. IsChoosing (depth_of_write w) bounds edges context forms more c.args.choice.now
+            c.args.choices.now) none c.requires.choosing,
       ),
     )
 
@@ -50,19 +48,21 @@ choose-returns-in_default t c =
     let more = c.args.more.now in
     let none : c.args.forms.now ≡ [] = nil_from_length c.args.forms.now c.in_default.ensures.cases in
     IfOk-weaker c.choose_next.result _ _
-    (λ tree h. answer_wider c.args.w.now c.args.context.now (choices_left [] more)
+    (λ tree h. answer_wider c.args.graph.now.writes c.args.context.now (choices_left [] more)
     (choices_left c.args.forms.now more) tree (omega (arith, ap length none)) h) c.choose_next.ensures
 
 -- The next form
 
-pub choose-choice_step-requires-clause-context : goal.choose-choice_step-requires-clause-context
-choose-choice_step-requires-clause-context t c =
-    context_is c.args.w.now (choices_left c.args.forms.now c.args.more.now) c.args.context.now
-    c.requires.ready.graph.asked c.requires.context
+pub choose-invariant_of-here : goal.choose-invariant_of-here
+choose-invariant_of-here t c =
+    record {
+      fits = context_is c.args.graph.now.writes (choices_left c.args.forms.now c.args.more.now) c.args.context.now
+          c.requires.context;
+    }
 
 pub choose-choice_step-requires-clause-chosen : goal.choose-choice_step-requires-clause-chosen
 choose-choice_step-requires-clause-chosen t c =
-    let w = c.args.w.now in
+    let w = c.args.graph.now.writes in
     let edges = c.args.graph.now.edges.now in
     let bounds = c.args.graph.now.bounds.now in
     let context = c.args.context.now in
@@ -73,11 +73,12 @@ choose-choice_step-requires-clause-chosen t c =
     let h = subst (λ fs. IsChoosing (depth_of_write w) bounds edges context fs c.args.more.now choice
     c.args.choices.now) first c.requires.choosing in
     subst (λ v. IsSmallForm v choice.form) (sym c.requires.context.vars)
-    (chosen_small w edges bounds c.requires.ready context forms c.args.more.now choice c.args.choices.now form h)
+    (chosen_small w edges bounds (ready_of c.args.graph.now) context forms c.args.more.now choice c.args.choices.now
+    form h)
 
 pub choose-choice_step-requires-clause-form : goal.choose-choice_step-requires-clause-form
 choose-choice_step-requires-clause-form t c =
-    let w = c.args.w.now in
+    let w = c.args.graph.now.writes in
     let edges = c.args.graph.now.edges.now in
     let bounds = c.args.graph.now.bounds.now in
     let context = c.args.context.now in
@@ -88,11 +89,12 @@ choose-choice_step-requires-clause-form t c =
     let h = subst (λ fs. IsChoosing (depth_of_write w) bounds edges context fs c.args.more.now choice
     c.args.choices.now) first c.requires.choosing in
     subst (λ v. IfSome form (IsSmallForm v)) (sym c.requires.context.vars)
-    (next_small w edges bounds c.requires.ready context forms c.args.more.now choice c.args.choices.now form h)
+    (next_small w edges bounds (ready_of c.args.graph.now) context forms c.args.more.now choice c.args.choices.now form
+    h)
 
 pub choose-follow-tree-requires : goal.choose-follow-tree-requires
 choose-follow-tree-requires t c =
-    let w = c.args.w.now in
+    let w = c.args.graph.now.writes in
     let edges = c.args.graph.now.edges.now in
     let bounds = c.args.graph.now.bounds.now in
     let context = c.args.context.now in
@@ -113,12 +115,9 @@ choose-follow-tree-requires t c =
     } in (
       omega (arith, ap length first),
       (
-        c.requires.ready,
-        (
-          context_less w context (choices_left forms more + 1) (choices_left c.args.forms.now more)
-              (omega (arith, ap length first)) c.requires.context,
-          followed,
-        ),
+        context_less w context (choices_left forms more + 1) (choices_left c.args.forms.now more)
+            (omega (arith, ap length first)) c.requires.context,
+        followed,
       ),
     )
 
@@ -128,20 +127,20 @@ choose-returns t c =
     let more = c.args.more.now in
     let first : c.args.forms.now ≡ c.in-Some.form.now ∷ forms = search rules in
     IfOk-weaker c.follow-tree.result _ _
-    (λ tree h. answer_wider c.args.w.now c.args.context.now (choices_left forms more + 1)
+    (λ tree h. answer_wider c.args.graph.now.writes c.args.context.now (choices_left forms more + 1)
     (choices_left c.args.forms.now more) tree (omega (arith, ap length first)) h) c.follow-tree.ensures
 
 -- The next variable
 
 pub choose_next-confirm_all-requires-clause-context : goal.choose_next-confirm_all-requires-clause-context
 choose_next-confirm_all-requires-clause-context t c =
-    let few = c.requires.ready.graph.graph.few in
-    context_less c.args.w.now c.args.context.now (length c.args.graph.now.edges.now)
+    let few = c.args.graph.now.graph.graph.few in
+    context_less c.args.graph.now.writes c.args.context.now (length c.args.graph.now.edges.now)
     (choices_left [] c.args.more.now) (omega (arith, few)) c.requires.context
 
 pub choose_next-confirm_all-requires-clause-chosen : goal.choose_next-confirm_all-requires-clause-chosen
 choose_next-confirm_all-requires-clause-chosen t c =
-    let w = c.args.w.now in
+    let w = c.args.graph.now.writes in
     let edges = c.args.graph.now.edges.now in
     let bounds = c.args.graph.now.bounds.now in
     let context = c.args.context.now in
@@ -149,23 +148,26 @@ choose_next-confirm_all-requires-clause-chosen t c =
     let h = subst
     (λ more. IsChoosing (depth_of_write w) bounds edges context [] more c.args.choice.now c.args.choices.now) no_more
     c.requires.choosing in
-    chosen_all w edges bounds c.requires.ready context c.args.choice.now c.args.choices.now c.as_slice-chosen.result.now
+    chosen_all w edges bounds (ready_of c.args.graph.now) context c.args.choice.now c.args.choices.now
+    c.as_slice-chosen.result.now
     (c.as_slice-chosen.ensures ∙ c.in_ok-all.ensures) h
 
 pub choose_next-returns-in_default : goal.choose_next-returns-in_default
 choose_next-returns-in_default t c =
-    let few = c.requires.ready.graph.graph.few in
+    let few = c.args.graph.now.graph.graph.few in
     IfOk-weaker c.confirm_all.result _ _
-    (λ tree h. answer_wider c.args.w.now c.args.context.now (length c.args.graph.now.edges.now)
+    (λ tree h. answer_wider c.args.graph.now.writes c.args.context.now (length c.args.graph.now.edges.now)
     (choices_left [] c.args.more.now) tree (omega (arith, few)) h) c.confirm_all.ensures
 
-pub choose_next-start-requires-clause-context : goal.choose_next-start-requires-clause-context
-choose_next-start-requires-clause-context t c = context_is c.args.w.now (choices_left [] c.args.more.now)
-    c.args.context.now c.requires.ready.graph.asked c.requires.context
+pub choose_next-invariant_of-here : goal.choose_next-invariant_of-here
+choose_next-invariant_of-here t c = record {
+  fits = context_is c.args.graph.now.writes (choices_left [] c.args.more.now)
+      c.args.context.now c.requires.context;
+}
 
 pub choose_next-start-requires-clause-forms : goal.choose_next-start-requires-clause-forms
 choose_next-start-requires-clause-forms t c =
-    let w = c.args.w.now in
+    let w = c.args.graph.now.writes in
     let edges = c.args.graph.now.edges.now in
     let bounds = c.args.graph.now.bounds.now in
     let context = c.args.context.now in
@@ -175,14 +177,15 @@ choose_next-start-requires-clause-forms t c =
     let h = subst
     (λ more. IsChoosing (depth_of_write w) bounds edges context [] more c.args.choice.now c.args.choices.now) more_is
     c.requires.choosing in
-    let n = next_more w edges bounds c.requires.ready context next rest c.args.choice.now c.args.choices.now h in
+    let n = next_more w edges bounds (ready_of c.args.graph.now) context next rest c.args.choice.now c.args.choices.now
+    h in
     subst (λ v. AreSmallForms v c.as_slice-next.result.now) (sym c.requires.context.vars)
-    (small_uppers w edges bounds c.requires.ready (length c.args.choices.now + 1) c.as_slice-next.result.now
+    (small_uppers w edges bounds (ready_of c.args.graph.now) (length c.args.choices.now + 1) c.as_slice-next.result.now
     (c.as_slice-next.ensures ∙ n.forms))
 
 pub choose_next-start-requires-clause-few : goal.choose_next-start-requires-clause-few
 choose_next-start-requires-clause-few t c =
-    let w = c.args.w.now in
+    let w = c.args.graph.now.writes in
     let edges = c.args.graph.now.edges.now in
     let bounds = c.args.graph.now.bounds.now in
     let context = c.args.context.now in
@@ -192,13 +195,14 @@ choose_next-start-requires-clause-few t c =
     let h = subst
     (λ more. IsChoosing (depth_of_write w) bounds edges context [] more c.args.choice.now c.args.choices.now) more_is
     c.requires.choosing in
-    let n = next_more w edges bounds c.requires.ready context next rest c.args.choice.now c.args.choices.now h in
-    few_uppers w edges bounds c.requires.ready (length c.args.choices.now + 1) c.as_slice-next.result.now
+    let n = next_more w edges bounds (ready_of c.args.graph.now) context next rest c.args.choice.now c.args.choices.now
+    h in
+    few_uppers w edges bounds (ready_of c.args.graph.now) (length c.args.choices.now + 1) c.as_slice-next.result.now
     (c.as_slice-next.ensures ∙ n.forms)
 
 pub choose_next-start-requires-clause-some : goal.choose_next-start-requires-clause-some
 choose_next-start-requires-clause-some t c =
-    let w = c.args.w.now in
+    let w = c.args.graph.now.writes in
     let edges = c.args.graph.now.edges.now in
     let bounds = c.args.graph.now.bounds.now in
     let context = c.args.context.now in
@@ -208,13 +212,15 @@ choose_next-start-requires-clause-some t c =
     let h = subst
     (λ more. IsChoosing (depth_of_write w) bounds edges context [] more c.args.choice.now c.args.choices.now) more_is
     c.requires.choosing in
-    let n = next_more w edges bounds c.requires.ready context next rest c.args.choice.now c.args.choices.now h in
-    some_upper w edges bounds c.requires.ready (length c.args.choices.now + 1) c.as_slice-next.result.now n.inside
+    let n = next_more w edges bounds (ready_of c.args.graph.now) context next rest c.args.choice.now c.args.choices.now
+    h in
+    some_upper w edges bounds (ready_of c.args.graph.now) (length c.args.choices.now + 1) c.as_slice-next.result.now
+    n.inside
     (c.as_slice-next.ensures ∙ n.forms)
 
 pub choose_next-choose-requires : goal.choose_next-choose-requires
 choose_next-choose-requires t c =
-    let w = c.args.w.now in
+    let w = c.args.graph.now.writes in
     let edges = c.args.graph.now.edges.now in
     let bounds = c.args.graph.now.bounds.now in
     let context = c.args.context.now in
@@ -224,7 +230,8 @@ choose_next-choose-requires t c =
     let h = subst
     (λ more. IsChoosing (depth_of_write w) bounds edges context [] more c.args.choice.now c.args.choices.now) more_is
     c.requires.choosing in
-    let n = next_more w edges bounds c.requires.ready context next rest c.args.choice.now c.args.choices.now h in
+    let n = next_more w edges bounds (ready_of c.args.graph.now) context next rest c.args.choice.now c.args.choices.now
+    h in
     let forms = c.as_slice-next.result.now in
     let fewer = ap length c.as_slice-next.ensures in (
       omega (
@@ -234,21 +241,18 @@ choose_next-choose-requires t c =
         fewer,
       ),
       (
-        c.requires.ready,
-        (
-          context_less w context (choices_left forms rest) (choices_left [] c.args.more.now)
-              (omega (arith, ap (sum_by length) more_is, sum_by-cons length next rest, fewer))
-              c.requires.context,
-          choosing_start w edges bounds c.requires.ready context
-              (length c.args.choices.now + 1) forms rest c.in_ok-first.first c.as_slice-chosen.result.now
-              (ap length (c.as_slice-chosen.ensures ∙ c.in_ok-all.ensures)
-              ∙ length_push c.args.choices.now c.args.choice.now)
-              n.inside (c.as_slice-next.ensures ∙ n.forms) n.others c.in_ok-first.ensures.edge
-              c.in_ok-first.ensures.empty
-              (choosing_end w edges bounds c.requires.ready context
-              (next ∷ rest) c.args.choice.now c.args.choices.now c.as_slice-chosen.result.now
-              (c.as_slice-chosen.ensures ∙ c.in_ok-all.ensures) h),
-        ),
+        context_less w context (choices_left forms rest) (choices_left [] c.args.more.now)
+            (omega (arith, ap (sum_by length) more_is, sum_by-cons length next rest, fewer))
+            c.requires.context,
+        choosing_start w edges bounds (ready_of c.args.graph.now) context
+            (length c.args.choices.now + 1) forms rest c.in_ok-first.first c.as_slice-chosen.result.now
+            (ap length (c.as_slice-chosen.ensures ∙ c.in_ok-all.ensures)
+            ∙ length_push c.args.choices.now c.args.choice.now)
+            n.inside (c.as_slice-next.ensures ∙ n.forms) n.others c.in_ok-first.ensures.edge
+            c.in_ok-first.ensures.empty
+            (choosing_end w edges bounds (ready_of c.args.graph.now) context
+            (next ∷ rest) c.args.choice.now c.args.choices.now c.as_slice-chosen.result.now
+            (c.as_slice-chosen.ensures ∙ c.in_ok-all.ensures) h),
       ),
     )
 
@@ -259,7 +263,7 @@ choose_next-returns t c =
     let more_is : c.args.more.now ≡ next ∷ rest = search rules in
     let fewer = ap length c.as_slice-next.ensures in
     IfOk-weaker c.choose.result _ _
-    (λ tree h. answer_wider c.args.w.now c.args.context.now (choices_left c.as_slice-next.result.now rest)
+    (λ tree h. answer_wider c.args.graph.now.writes c.args.context.now (choices_left c.as_slice-next.result.now rest)
     (choices_left [] c.args.more.now) tree
     (omega (arith, ap (sum_by length) more_is, sum_by-cons length next rest, fewer)) h) c.choose.ensures
 
@@ -267,7 +271,7 @@ choose_next-returns t c =
 
 pub follow-choose-requires : goal.follow-choose-requires
 follow-choose-requires t c =
-    let w = c.args.w.now in
+    let w = c.args.graph.now.writes in
     let edges = c.args.graph.now.edges.now in
     let bounds = c.args.graph.now.bounds.now in
     let context = c.args.context.now in
@@ -277,13 +281,11 @@ follow-choose-requires t c =
     let follows = subst (IsChoiceStep context s.form s.choice) c.in-Known.is s.follows in (
       omega arith,
       (
-        c.requires.ready,
-        (
-          context_less w context (choices_left forms more) (choices_left forms more + 1) (omega arith)
-              c.requires.context,
-          choosing_step w edges bounds c.requires.ready context context s.form forms more s.choice c.in-Known.next
-              c.args.choices.now s.choosing follows s.choosing.chosen,
-        ),
+        context_less w context (choices_left forms more) (choices_left forms more + 1) (omega arith)
+            c.requires.context,
+        choosing_step w edges bounds (ready_of c.args.graph.now) context context s.form forms more s.choice
+            c.in-Known.next
+            c.args.choices.now s.choosing follows s.choosing.chosen,
       ),
     )
 
@@ -291,7 +293,7 @@ pub follow-returns-in-Known : goal.follow-returns-in-Known
 follow-returns-in-Known t c =
     let n = choices_left c.args.forms.now c.args.more.now in
     IfOk-weaker c.choose.result _ _
-    (λ tree h. answer_wider c.args.w.now c.args.context.now n (n + 1) tree (omega arith) h) c.choose.ensures
+    (λ tree h. answer_wider c.args.graph.now.writes c.args.context.now n (n + 1) tree (omega arith) h) c.choose.ensures
 
 -- A Test
 
@@ -303,7 +305,7 @@ follow-opposite-row-requires t c =
 
 pub follow-choose_with-requires : goal.follow-choose_with-requires
 follow-choose_with-requires t c =
-    let w = c.args.w.now in
+    let w = c.args.graph.now.writes in
     let edges = c.args.graph.now.edges.now in
     let bounds = c.args.graph.now.bounds.now in
     let context = c.args.context.now in
@@ -317,26 +319,24 @@ follow-choose_with-requires t c =
     let row_is = negation_of-some (2 ^ 34 + 2 ^ 40) above row (omega arith) told.within c.opposite-row.ensures in (
       omega arith,
       (
-        c.requires.ready,
-        (
-          context_more w (choices_left forms more) (choices_left forms more + 1) context (with_form context row) row
-              refl
-              (ap (λ (f : Form). length f.coefs) row_is ∙ opposite_long above ∙ told.over ∙ c.requires.context.vars)
-              (subst (IsWithin (2 ^ 41)) (sym row_is)
-              (opposite_small (2 ^ 34 + 2 ^ 40) above (omega arith) told.within))
-              (omega arith) c.requires.context,
-          choosing_step w edges bounds c.requires.ready context (with_form context row) s.form forms more s.choice
-              c.in-Either.other choices s.choosing
-              (told.below (with_form context row) row c.opposite-row.ensures refl)
-              (choices_behind (depth_of_write w) bounds edges context (with_form context row) 0 choices row refl
-              s.choosing.chosen),
-        ),
+        context_more w (choices_left forms more) (choices_left forms more + 1) context (with_form context row) row
+            refl
+            (ap (λ (f : Form). length f.coefs) row_is ∙ opposite_long above ∙ told.over ∙ c.requires.context.vars)
+            (subst (IsWithin (2 ^ 41)) (sym row_is)
+            (opposite_small (2 ^ 34 + 2 ^ 40) above (omega arith) told.within))
+            (omega arith) c.requires.context,
+        choosing_step w edges bounds (ready_of c.args.graph.now) context (with_form context row) s.form forms more
+            s.choice
+            c.in-Either.other choices s.choosing
+            (told.below (with_form context row) row c.opposite-row.ensures refl)
+            (choices_behind (depth_of_write w) bounds edges context (with_form context row) 0 choices row refl
+            s.choosing.chosen),
       ),
     )
 
 pub follow-choose_with-requires-in-Either : goal.follow-choose_with-requires-in-Either
 follow-choose_with-requires-in-Either t c =
-    let w = c.args.w.now in
+    let w = c.args.graph.now.writes in
     let edges = c.args.graph.now.edges.now in
     let bounds = c.args.graph.now.bounds.now in
     let context = c.args.context.now in
@@ -350,22 +350,21 @@ follow-choose_with-requires-in-Either t c =
     let least_is = ap (with_form context) c.copy-row.ensures in (
       omega arith,
       (
-        c.requires.ready,
-        (
-          context_more w (choices_left forms more) (choices_left forms more + 1) context (with_form context row) above
-              least_is (told.over ∙ c.requires.context.vars)
-              (IsWithin-weaker (2 ^ 34 + 2 ^ 40) (2 ^ 41) above (omega arith) told.within) (omega arith) c.requires.context,
-          choosing_step w edges bounds c.requires.ready context (with_form context row) s.form forms more s.choice
-              c.in-Either.same choices s.choosing (told.least (with_form context row) least_is)
-              (choices_behind (depth_of_write w) bounds edges context (with_form context row) 0 choices above least_is
-              s.choosing.chosen),
-        ),
+        context_more w (choices_left forms more) (choices_left forms more + 1) context (with_form context row) above
+            least_is (told.over ∙ c.requires.context.vars)
+            (IsWithin-weaker (2 ^ 34 + 2 ^ 40) (2 ^ 41) above (omega arith) told.within) (omega arith)
+            c.requires.context,
+        choosing_step w edges bounds (ready_of c.args.graph.now) context (with_form context row) s.form forms more
+            s.choice
+            c.in-Either.same choices s.choosing (told.least (with_form context row) least_is)
+            (choices_behind (depth_of_write w) bounds edges context (with_form context row) 0 choices above least_is
+            s.choosing.chosen),
       ),
     )
 
 pub follow-returns-in-Ok : goal.follow-returns-in-Ok
 follow-returns-in-Ok t c =
-    let w = c.args.w.now in
+    let w = c.args.graph.now.writes in
     let context = c.args.context.now in
     let above = c.in-Either.above in
     let s = c.requires.step in
@@ -384,17 +383,14 @@ follow-returns-in-Ok t c =
 
 pub choose_with-choose-requires : goal.choose_with-choose-requires
 choose_with-choose-requires t c =
-    let w = c.args.w.now in
+    let w = c.args.graph.now.writes in
     let forms = c.args.forms.now in
     let more = c.args.more.now in (
       omega arith,
       (
-        c.requires.ready,
-        (
-          subst (IsContextOf w (choices_left forms more)) (sym c.in_ok-longer.ensures) c.requires.context,
-          subst (λ s. IsChoosing (depth_of_write w) c.args.graph.now.bounds.now c.args.graph.now.edges.now s forms more
-              c.args.choice.now c.args.choices.now) (sym c.in_ok-longer.ensures) c.requires.choosing,
-        ),
+        subst (IsContextOf w (choices_left forms more)) (sym c.in_ok-longer.ensures) c.requires.context,
+        subst (λ s. IsChoosing (depth_of_write w) c.args.graph.now.bounds.now c.args.graph.now.edges.now s forms more
+            c.args.choice.now c.args.choices.now) (sym c.in_ok-longer.ensures) c.requires.choosing,
       ),
     )
 
@@ -402,4 +398,4 @@ pub choose_with-returns : goal.choose_with-returns
 choose_with-returns t c =
     let n = choices_left c.args.forms.now c.args.more.now in
     IfOk-weaker c.choose.result _ _
-    (λ tree h. subst (λ s. IsAnswer c.args.w.now s n tree) c.in_ok-longer.ensures h) c.choose.ensures
+    (λ tree h. subst (λ s. IsAnswer c.args.graph.now.writes s n tree) c.in_ok-longer.ensures h) c.choose.ensures

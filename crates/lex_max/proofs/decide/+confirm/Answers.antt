@@ -15,7 +15,7 @@ use Rattle.tree_sums.proofs.Within.{IsWithin-weaker}
 
 pub confirm-writer_leaf-requires-clause-context : goal.confirm-writer_leaf-requires-clause-context
 confirm-writer_leaf-requires-clause-context t c =
-    context_less c.args.w.now c.args.context.now 0 (length c.args.edges.now) (omega arith) c.requires.context
+    context_less c.args.graph.now.writes c.args.context.now 0 (length c.args.edges.now) (omega arith) c.requires.context
 
 pub confirm-writer_leaf-requires-clause-certs : goal.confirm-writer_leaf-requires-clause-certs
 confirm-writer_leaf-requires-clause-certs t c =
@@ -35,7 +35,7 @@ confirm-returns-in_default t c =
 
 pub confirm-edge_state-requires-clause-context : goal.confirm-edge_state-requires-clause-context
 confirm-edge_state-requires-clause-context t c =
-    context_less c.args.w.now c.args.context.now 0 (length c.args.edges.now) (omega arith) c.requires.context
+    context_less c.args.graph.now.writes c.args.context.now 0 (length c.args.edges.now) (omega arith) c.requires.context
 
 pub confirm-edge_state-requires-clause-edge : goal.confirm-edge_state-requires-clause-edge
 confirm-edge_state-requires-clause-edge t c =
@@ -51,7 +51,7 @@ confirm-edge_state-requires-clause-edge t c =
 
 pub confirm-confirm-requires : goal.confirm-confirm-requires
 confirm-confirm-requires t c =
-    let w = c.args.w.now in
+    let w = c.args.graph.now.writes in
     let edges = c.args.graph.now.edges.now in
     let context = c.args.context.now in
     let place = chosen_place c.args.choices.now in
@@ -63,15 +63,12 @@ confirm-confirm-requires t c =
     let told = subst (IsEdgeState w edges context place g) c.in-Shown.is c.in_ok-state.ensures in (
       omega (arith, ap length first),
       (
-        c.requires.ready,
+        context_less w context (length rest) (length c.args.edges.now) (omega (arith, ap length first))
+            c.requires.context,
         (
-          context_less w context (length rest) (length c.args.edges.now) (omega (arith, ap length first))
-              c.requires.context,
-          (
-            c.requires.chosen,
-            certs_next context place edges rest g c.args.certs.now c.push.new.self terms
-                c.in_ok-push-in-Shown.ensures.ok told so_far,
-          ),
+          c.requires.chosen,
+          certs_next context place edges rest g c.args.certs.now c.push.new.self terms
+              c.in_ok-push-in-Shown.ensures.ok told so_far,
         ),
       ),
     )
@@ -80,12 +77,13 @@ pub confirm-returns-in_ok-push-in-Shown : goal.confirm-returns-in_ok-push-in-Sho
 confirm-returns-in_ok-push-in-Shown t c =
     let first : c.args.edges.now ≡ c.in-Some.edge.now ∷ c.in-Some.edges.now = search rules in
     IfOk-weaker c.confirm.result _ _
-    (λ tree h. answer_wider c.args.w.now c.args.context.now (length c.in-Some.edges.now) (length c.args.edges.now) tree
+    (λ tree h. answer_wider c.args.graph.now.writes c.args.context.now (length c.in-Some.edges.now)
+    (length c.args.edges.now) tree
     (omega (arith, ap length first)) h) c.confirm.ensures
 
 pub confirm-returns-in-Refuted : goal.confirm-returns-in-Refuted
 confirm-returns-in-Refuted t c =
-    let told = subst (IsEdgeState c.args.w.now c.args.graph.now.edges.now c.args.context.now
+    let told = subst (IsEdgeState c.args.graph.now.writes c.args.graph.now.edges.now c.args.context.now
     (chosen_place c.args.choices.now) c.in-Some.edge.now) c.in-Refuted.is c.in_ok-state.ensures in
     told (length c.args.edges.now)
 
@@ -93,7 +91,7 @@ confirm-returns-in-Refuted t c =
 
 pub confirm-confirm_above-tree-requires : goal.confirm-confirm_above-tree-requires
 confirm-confirm_above-tree-requires t c =
-    let w = c.args.w.now in
+    let w = c.args.graph.now.writes in
     let edges = c.args.graph.now.edges.now in
     let context = c.args.context.now in
     let place = chosen_place c.args.choices.now in
@@ -104,12 +102,9 @@ confirm-confirm_above-tree-requires t c =
     let told = subst (IsEdgeState w edges context place g) c.in-Open.is c.in_ok-state.ensures in (
       omega (arith, ap length first),
       (
-        c.requires.ready,
-        (
-          context_less w context (length rest + 1) (length c.args.edges.now) (omega (arith, ap length first))
-              c.requires.context,
-          (c.requires.chosen, (told.0, (g, so_far, told.1))),
-        ),
+        context_less w context (length rest + 1) (length c.args.edges.now) (omega (arith, ap length first))
+            c.requires.context,
+        (c.requires.chosen, (told.0, (g, so_far, told.1))),
       ),
     )
 
@@ -117,12 +112,13 @@ pub confirm-returns-in-Open : goal.confirm-returns-in-Open
 confirm-returns-in-Open t c =
     let first : c.args.edges.now ≡ c.in-Some.edge.now ∷ c.in-Some.edges.now = search rules in
     IfOk-weaker c.confirm_above-tree.result _ _
-    (λ tree h. answer_wider c.args.w.now c.args.context.now (length c.in-Some.edges.now + 1) (length c.args.edges.now)
+    (λ tree h. answer_wider c.args.graph.now.writes c.args.context.now (length c.in-Some.edges.now + 1)
+    (length c.args.edges.now)
     tree (omega (arith, ap length first)) h) c.confirm_above-tree.ensures
 
 pub confirm_above-confirm-requires : goal.confirm_above-confirm-requires
 confirm_above-confirm-requires t c =
-    let w = c.args.w.now in
+    let w = c.args.graph.now.writes in
     let edges = c.args.graph.now.edges.now in
     let bounds = c.args.graph.now.bounds.now in
     let context = c.args.context.now in
@@ -140,28 +136,26 @@ confirm_above-confirm-requires t c =
     in (
       omega arith,
       (
-        c.requires.ready,
+        context_more w (length rest) (length rest + 1) context above form above_is c.requires.cycle.over
+            (IsWithin-weaker (2 ^ 40) (2 ^ 41) form (omega arith) c.requires.cycle.within) (omega arith)
+            c.requires.context,
         (
-          context_more w (length rest) (length rest + 1) context above form above_is c.requires.cycle.over
-              (IsWithin-weaker (2 ^ 40) (2 ^ 41) form (omega arith) c.requires.cycle.within) (omega arith)
-              c.requires.context,
-          (
-            chosen_more w edges bounds context above form choices above_is c.requires.chosen,
-            certs_next above place edges rest g c.args.certs.now c.push.new.self own
-                c.in_ok-push.ensures.ok fact
-                (certs_more context above place form edges (g ∷ rest) c.args.certs.now above_is c.requires.certs.1),
-          ),
+          chosen_more w edges bounds context above form choices above_is c.requires.chosen,
+          certs_next above place edges rest g c.args.certs.now c.push.new.self own
+              c.in_ok-push.ensures.ok fact
+              (certs_more context above place form edges (g ∷ rest) c.args.certs.now above_is c.requires.certs.1),
         ),
       ),
     )
 
 pub confirm_above-cycle_test-requires-clause-context : goal.confirm_above-cycle_test-requires-clause-context
 confirm_above-cycle_test-requires-clause-context t c =
-    context_less c.args.w.now c.args.context.now 1 (length c.args.edges.now + 1) (omega arith) c.requires.context
+    context_less c.args.graph.now.writes c.args.context.now 1 (length c.args.edges.now + 1)
+    (omega arith) c.requires.context
 
 pub confirm_above-cycle_test-requires-clause-cycle : goal.confirm_above-cycle_test-requires-clause-cycle
 confirm_above-cycle_test-requires-clause-cycle t c =
-    (c.args.graph.now.edges.now, c.requires.ready.graph, c.requires.cycle)
+    c.requires.cycle
 
 pub confirm_above-returns : goal.confirm_above-returns
 confirm_above-returns t c =

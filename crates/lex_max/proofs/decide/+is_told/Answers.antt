@@ -47,34 +47,34 @@ returns t c =
     (λ told. OnTrue told ((terms : List Term) × IsFact s 65536 (form_parts c.args.form.now) terms)))
     (behind c.args.context.now c.in_ok-more.more c.args.cycles.now rest cycle first more_is) c.is_told.ensures
 
-pub is_known-requires-clause-context : goal.is_known-requires-clause-context
-is_known-requires-clause-context t c =
-    context_is c.args.w.now (length c.args.cycles.now) c.args.context.now c.requires.asked c.requires.context
+pub invariant_of-here : goal.invariant_of-here
+invariant_of-here t c =
+    record {
+      fits = context_is c.args.graph.now.writes (length c.args.cycles.now) c.args.context.now
+          c.requires.context;
+    }
 
-pub is_known-requires-clause-over : goal.is_known-requires-clause-over
-is_known-requires-clause-over t c = c.requires.over ∙ sym c.requires.context.vars
+pub is_known-requires : goal.is_known-requires
+is_known-requires t c = c.requires.over ∙ sym c.requires.context.vars
 
 pub is_told-requires : goal.is_told-requires
 is_told-requires t c =
-    let w = c.args.w.now in
+    let w = c.args.graph.now.writes in
     let context = c.args.context.now in
-    let edges = c.requires.cycles.0 in
+    let edges = c.args.graph.now.edges.now in
     let P = IsCycle w.vars edges in
     let cycle = c.in-Some.cycle.now in
     let rest = c.in-Some.cycles.now in
     let first : c.args.cycles.now ≡ cycle ∷ rest = search rules in
-    let all = subst (All P) first c.requires.cycles.1 in
+    let all = subst (All P) first c.requires.cycles in
     let one = All-head P cycle rest all in
     let more_is = c.in_ok-more.ensures
     ∙ ap (λ (f : Form). record context { rows = context.rows ++ f ∷ [] }) c.copy.ensures in (
       omega (arith, ap length first),
       (
-        c.requires.asked,
-        (
-          context_more w (length rest) (length c.args.cycles.now) context c.in_ok-more.more cycle.form
-              more_is one.over (IsWithin-weaker (2 ^ 40) (2 ^ 41) cycle.form (omega arith) one.within)
-              (omega (arith, ap length first)) c.requires.context,
-          ((edges, All-tail P cycle rest all), c.requires.over),
-        ),
+        context_more w (length rest) (length c.args.cycles.now) context c.in_ok-more.more cycle.form
+            more_is one.over (IsWithin-weaker (2 ^ 40) (2 ^ 41) cycle.form (omega arith) one.within)
+            (omega (arith, ap length first)) c.requires.context,
+        (All-tail P cycle rest all, c.requires.over),
       ),
     )

@@ -1,10 +1,9 @@
-use Rattle.std.proofs.Common.{◌≡◌, ◌+◌, ℕ, zero, suc, List, ◌∷◌, refl, sym, ap, ◌∙◌, subst, arith, length, rules}
+use Rattle.std.proofs.Common.{◌≡◌, ◌+◌, ℕ, suc, List, ◌∷◌, refl, sym, ap, ◌∙◌, subst, arith, length, rules}
 use Rattle.std.specs.Prelude.{Option, Some, None, slice_get, MatchOption}
 use Rattle.std.proofs.lemmas.List.Elements.{All-cons}
-use Rattle.std.proofs.lemmas.Option.{same_Some}
 use Rattle.affine_core.specs.declared.form.Form.{Form}
 use Rattle.lex_max.specs.Choices.{AllNone}
-use Rattle.lex_max.specs.ChoiceSteps.{AreSmallForms, IsSmallForm}
+use Rattle.lex_max.specs.ChoiceSteps.{AreSmallForms}
 use Rattle.lex_max.proofs.decide.+least_form.Goals as goal
 
 -- the form of this number
@@ -34,11 +33,8 @@ least_form-requires t c =
     let is : c.args.forms.now ≡ c.in-Some.first.now ∷ rest = search rules in (
       omega (arith, ap length is),
       (
-        c.requires.context,
-        (
-          small_behind c.args.context.now.vars c.args.forms.now rest c.in-Some.first.now is c.requires.forms,
-          omega (arith, ap length is, c.requires.few),
-        ),
+        small_behind c.args.context.now.system.now.vars c.args.forms.now rest c.in-Some.first.now is c.requires.forms,
+        omega (arith, ap length is, c.requires.few),
       ),
     )
 
@@ -65,7 +61,8 @@ is_no_greater-requires-clause-other t c =
     let is : c.args.forms.now ≡ c.in-Some.first.now ∷ rest = search rules in
     let h = subst (λ o. MatchOption o (AllNone rest) (IsAmong rest (c.args.number + 1))) c.in-Some-later.is
     c.in_ok-later.ensures in
-    small_behind c.args.context.now.vars c.args.forms.now rest c.in-Some.first.now is c.requires.forms h.0 last.1 h.2
+    small_behind c.args.context.now.system.now.vars c.args.forms.now rest c.in-Some.first.now is c.requires.forms h.0
+    last.1 h.2
 
 pub returns : goal.returns
 returns t c =

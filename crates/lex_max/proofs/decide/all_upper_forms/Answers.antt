@@ -7,7 +7,7 @@ use Rattle.lex_max.proofs.decide.all_upper_forms.Goals as goal
 
 pub loop-variable-preserved : goal.loop-variable-preserved
 loop-variable-preserved c =
-    let f = uppers_of (depth_of_write c.args.w.now) c.args.graph.now.bounds.now c.args.graph.now.edges.now in
+    let f = uppers_of (depth_of_write c.args.graph.now.writes) c.args.graph.now.bounds.now c.args.graph.now.edges.now in
     let v = c.loop-variable.variable in
     c.in_ok-push.ensures.ok ∙ ap (λ fs. fs ++ c.in_ok-upper_forms.field-0 ∷ []) c.loop-variable.invariant
     ∙ ap (λ fs. map f (range_with_len 0 v) ++ fs ∷ []) c.in_ok-upper_forms.ensures

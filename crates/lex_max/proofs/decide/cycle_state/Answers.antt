@@ -5,21 +5,21 @@ use Rattle.tree_graphs.specs.Facts.{form_parts, IsFact}
 use Rattle.lex_max.proofs.DecisionContexts.{context_is, cycle_fact}
 use Rattle.lex_max.proofs.decide.cycle_state.Goals as goal
 
-pub known-requires-clause-context : goal.known-requires-clause-context
-known-requires-clause-context c =
-    context_is c.args.w.now 0 c.args.context.now c.requires.cycle.1.asked c.requires.context
+pub invariant_of-here : goal.invariant_of-here
+invariant_of-here c =
+    record { fits = context_is c.args.graph.now.writes 0 c.args.context.now c.requires.context }
 
-pub known-requires-clause-over : goal.known-requires-clause-over
-known-requires-clause-over c = c.requires.cycle.2.over ∙ sym c.requires.context.vars
+pub known-requires : goal.known-requires
+known-requires c = c.requires.cycle.over ∙ sym c.requires.context.vars
 
 pub returns-in-Some : goal.returns-in-Some
-returns-in-Some c = λ edges place edge parts.
+returns-in-Some c = λ place edge parts.
     let form = c.args.cycle.now.form in
     let told = subst (λ o. IfSome o (IsFact c.args.context.now 65536 (form_parts form))) c.in-Some.is
     c.in_ok-terms.ensures.some in
     cycle_fact c.args.context.now place edge form c.in-Some.terms parts told
 
 pub returns-in-Some-2 : goal.returns-in-Some-2
-returns-in-Some-2 c = λ edges place edge parts.
-    subst (λ o. IfSome o (λ tree. (tests : ℕ) → IsAnswer c.args.w.now c.args.context.now tests tree))
+returns-in-Some-2 c = λ place edge parts.
+    subst (λ o. IfSome o (λ tree. (tests : ℕ) → IsAnswer c.args.graph.now.writes c.args.context.now tests tree))
     c.in-Some-2.is c.in_ok-leaf-in-None.ensures

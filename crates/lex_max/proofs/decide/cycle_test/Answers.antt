@@ -13,10 +13,10 @@ use Rattle.tree_sums.proofs.Within.{IsWithin-weaker}
 
 pub returns-in-Ok : goal.returns-in-Ok
 returns-in-Ok c =
-    let w = c.args.w.now in
+    let w = c.args.graph.now.writes in
     let context = c.args.context.now in
     let form = c.args.cycle.now.form in
-    let one = c.requires.cycle.2 in
+    let one = c.requires.cycle in
     let no = c.in-Ok.no in
     let yes = c.args.yes in
     let other = opposite_form form in

@@ -11,7 +11,7 @@ use Rattle.lex_max.proofs.decide.next_choice.Goals as goal
 
 pub returns-in-Some : goal.returns-in-Some
 returns-in-Some c =
-    let context = c.args.context.now in
+    let context = c.args.context.now.system.now in
     let choice = c.args.choice.now in
     let form = c.args.form.now in
     let above = c.args.above.now in
@@ -24,13 +24,13 @@ returns-in-Some c =
     (next_kept context choice (record choice { less = choice.less ++ Some terms ∷ [] }) form above terms
     c.requires.parts refl fact)) c.kept_choice.ensures
 
-pub known-requires-2-clause-over : goal.known-requires-2-clause-over
-known-requires-2-clause-over c = ap (λ (f : Form). length f.coefs) c.negative-less.ensures
+pub known-requires-2 : goal.known-requires-2
+known-requires-2 c = ap (λ (f : Form). length f.coefs) c.negative-less.ensures
     ∙ negative_over c.args.above.now ∙ c.requires.over
 
 pub returns : goal.returns
 returns c =
-    let context = c.args.context.now in
+    let context = c.args.context.now.system.now in
     let choice = c.args.choice.now in
     let form = c.args.form.now in
     let less = c.negative-less.result in

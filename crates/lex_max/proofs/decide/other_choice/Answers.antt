@@ -12,7 +12,7 @@ returns c =
     let form = c.args.form.now in
     IfOk-weaker c.switched.result _ _
     (λ next is below row opposite more.
-    next_other c.args.context.now below choice next form c.args.above.now row c.in_ok-own.own c.len.result
+    next_other c.args.context.now.system.now below choice next form c.args.above.now row c.in_ok-own.own c.len.result
     c.requires.parts c.requires.small
     (is ∙ ap (λ (ts : List Term). record {
       edge = length choice.less;

@@ -9,23 +9,18 @@ use Rattle.plain_data.proofs.Lists.{All-slice_get}
 
 pub upper_form-requires : goal.upper_form-requires
 upper_form-requires c =
-    let w = c.args.w.now in
-    let edges = c.args.graph.now.edges.now in
-    let ready = c.requires in (
-      edges,
-      ready.closed,
-      All-slice_get (IsEdge w.vars (depth_of_write w)) edges c.loop-edge.edge-index c.edge-item.result
-          ready.graph.graph.each
-          (slice_get_read edges (length edges) c.loop-edge.edge-index c.edge-item.result refl
-          (omega arith) c.edge-item.is),
-    )
+    let g = c.args.graph.now in
+    let edges = g.edges.now in
+    All-slice_get (IsEdge g.writes.vars (depth_of_write g.writes)) edges c.loop-edge.edge-index c.edge-item.result
+    g.graph.graph.each
+    (slice_get_read edges (length edges) c.loop-edge.edge-index c.edge-item.result refl (omega arith) c.edge-item.is)
 
 pub loop-edge-preserved : goal.loop-edge-preserved
 loop-edge-preserved c =
     let edges = c.args.graph.now.edges.now in
     let i = c.loop-edge.edge-index in
     let item = c.edge-item.result in
-    let form = upper_of (depth_of_write c.args.w.now) c.args.graph.now.bounds.now c.args.variable in
+    let form = upper_of (depth_of_write c.args.graph.now.writes) c.args.graph.now.bounds.now c.args.variable in
     let inside : i < length edges = omega arith in
     c.in_ok-push.ensures.ok ∙ ap (λ forms. forms ++ c.upper_form.result ∷ []) c.loop-edge.invariant
     ∙ ap (λ f. map form (take i edges) ++ f ∷ []) c.upper_form.ensures

@@ -5,4 +5,4 @@ use Rattle.lex_max.proofs.decide.upper_forms.Given as goal
 
 abbrev pub invariant-loop-edge : goal.invariant-loop-edge
 invariant-loop-edge l = l.forms
-    ≡ map (upper_of (depth_of_write l.w) l.graph.bounds.now l.variable) (take l.edge-index l.edges)
+    ≡ map (upper_of (depth_of_write l.graph.writes) l.graph.bounds.now l.variable) (take l.edge-index l.edges)

@@ -5,8 +5,8 @@ use Rattle.lex_max.proofs.ReadAndWrite.{is_checked, is_greatest, is_simple}
 use Rattle.lex_max.proofs.Root.{root_context_of}
 use Rattle.lex_max.proofs.greatest.candidate.Goals as goal
 
-pub tree_of-requires-clause-context : goal.tree_of-requires-clause-context
-tree_of-requires-clause-context c =
+pub tree_of-requires : goal.tree_of-requires
+tree_of-requires c =
     root_context_of c.args.nest.now c.writes_of-w.result c.in_ok-context.context 3584 c.writes_of-w.ensures.stands
     c.writes_of-w.ensures.vars c.in_ok-context.ensures (omega arith)
 

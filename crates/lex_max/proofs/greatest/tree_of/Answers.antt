@@ -5,7 +5,7 @@ use Rattle.tree_graphs.specs.Asked.{depth_of_write}
 use Rattle.tree_graphs.specs.Closed.{IsClosure}
 use Rattle.tree_graphs.specs.Edges.{IsGraph}
 use Rattle.tree_graphs.specs.Rounds.{IsGraphOf}
-use Rattle.tree_graphs.proofs.ProblemBounds.{asked_fits}
+use Rattle.tree_graphs.proofs.ProblemBounds.{writes_fit}
 use Rattle.tree_graphs.proofs.ZeroCycles.{negative_contradicts}
 use Rattle.lex_max.proofs.ZeroLeaves.{context_less}
 use Rattle.lex_max.proofs.greatest.tree_of.Goals as goal
@@ -21,11 +21,11 @@ closure_of-requires-clause-edges c =
 
 pub closure_of-requires-clause-few : goal.closure_of-requires-clause-few
 closure_of-requires-clause-few c =
-    omega (arith, c.depth-nodes.ensures, (asked_fits c.args.w.now c.requires.asked).few_loops)
+    omega (arith, c.depth-nodes.ensures, (writes_fit c.args.w.now).few_loops)
 
 pub zero_leaf-requires-clause-context : goal.zero_leaf-requires-clause-context
 zero_leaf-requires-clause-context c =
-    context_less c.args.w.now c.args.context.now 0 3584 (omega arith) c.requires.context
+    context_less c.args.w.now c.args.context.now 0 3584 (omega arith) c.requires
 
 pub zero_leaf-requires-clause-refuted : goal.zero_leaf-requires-clause-refuted
 zero_leaf-requires-clause-refuted c =
@@ -33,7 +33,6 @@ zero_leaf-requires-clause-refuted c =
     let edges = c.as_slice-edges.result.now in
     let context = c.args.context.now in
     let graph : IsGraphOf w c.in_ok-found.found = record {
-      asked = c.requires.asked;
       edges_are =
           c.in_ok-found.ensures.rows;
       graph = c.in_ok-found.ensures.graph;
@@ -49,17 +48,18 @@ zero_leaf-requires-clause-refuted c =
 pub returns-in-Negative : goal.returns-in-Negative
 returns-in-Negative c = IfOk-weaker c.zero_leaf.result _ _ (λ tree h. h 3584) c.zero_leaf.ensures
 
-pub closed_tree-requires-clause-ready : goal.closed_tree-requires-clause-ready
-closed_tree-requires-clause-ready c =
+pub invariant_of-graph-clause-graph : goal.invariant_of-graph-clause-graph
+invariant_of-graph-clause-graph c =
     let w = c.args.w.now in
-    let edges = c.as_slice-edges.result.now in
     let graph : IsGraphOf w c.in_ok-found.found = record {
-      asked = c.requires.asked;
-      edges_are =
-          c.in_ok-found.ensures.rows;
+      edges_are = c.in_ok-found.ensures.rows;
       graph = c.in_ok-found.ensures.graph;
       starts = c.in_ok-found.ensures.domain;
     } in
-    let closed = subst (IsClosure edges (depth_of_write w)) c.in-Closed.is
-    (subst (λ n. IsClosure edges n c.in_ok-closure.closure) c.depth-nodes.ensures c.in_ok-closure.ensures) in
-    record { graph = subst (IsGraphOf w) (sym c.as_slice-edges.ensures) graph; closed = closed }
+    subst (IsGraphOf w) (sym c.as_slice-edges.ensures) graph
+
+pub invariant_of-graph-clause-closed : goal.invariant_of-graph-clause-closed
+invariant_of-graph-clause-closed c =
+    let edges = c.as_slice-edges.result.now in
+    subst (IsClosure edges (depth_of_write c.args.w.now)) c.in-Closed.is
+    (subst (λ n. IsClosure edges n c.in_ok-closure.closure) c.depth-nodes.ensures c.in_ok-closure.ensures)

@@ -20,7 +20,7 @@ pub terms_of-terms-requires : goal.terms_of-terms-requires
 terms_of-terms-requires c =
     let r = c.requires.certs in
     many_at c.args.w.now r.0 r.1 r.2 c.args.here c.args.order.now r.3
-    (level_common c.args.w.now c.args.level r.3.leaf.asked c.requires.level c.if-level-w.false)
+    (level_common c.args.w.now c.args.level c.requires.level c.if-level-w.false)
 
 pub returns-then-level-w-2 : goal.returns-then-level-w-2
 returns-then-level-w-2 c =

@@ -5,28 +5,29 @@ use Rattle.std.proofs.lemmas.Result.{IfOk-weaker}
 use Rattle.int_polyhedra.specs.declared.system.Proof.TheVariants.{Sum}
 use Rattle.int_polyhedra.specs.declared.system.Term.{Term}
 use Rattle.tree_graphs.specs.Paths.{term_of, terms_from}
-use Rattle.tree_graphs.proofs.ProblemBounds.{asked_fits}
+use Rattle.tree_graphs.proofs.ProblemBounds.{writes_fit}
 use Rattle.lex_max.proofs.ReturnEdges.{form_chosen, item_chosen}
+use Rattle.lex_max.proofs.Ready.{ready_of}
 use Rattle.lex_max.proofs.leaf.between_proof.Goals as goal
 
 pub bounds-choices-level : goal.bounds-choices-level
 bounds-choices-level c = omega (arith, c.requires.chosen.1.all, c.requires.level)
 
-pub path_to-requires-clause-chosen : goal.path_to-requires-clause-chosen
-path_to-requires-clause-chosen c =
-    let w = c.args.w.now in
+pub path_to-requires : goal.path_to-requires
+path_to-requires c =
+    let w = c.args.graph.now.writes in
     let edges = c.args.graph.now.edges.now in
     let bounds = c.args.graph.now.bounds.now in
     let choices = c.args.choices.now in
     let r = c.requires in
     let item = c.index-choices-level.result in
-    form_chosen w edges bounds r.ready r.chosen.0 choices r.chosen.1 c.args.level item
-    (item_chosen w edges bounds r.ready r.chosen.0 choices r.chosen.1 c.args.level item r.level
+    form_chosen w edges bounds (ready_of c.args.graph.now) r.chosen.0 choices r.chosen.1 c.args.level item
+    (item_chosen w edges bounds (ready_of c.args.graph.now) r.chosen.0 choices r.chosen.1 c.args.level item r.level
     c.index-choices-level.is)
 
 pub append_from-requires : goal.append_from-requires
 append_from-requires c =
-    let few = c.requires.ready.graph.graph.few in
+    let few = c.args.graph.now.graph.graph.few in
     let here = c.requires.here in
     let edges = c.args.graph.now.edges.now in
     subst (All (λ (t : Term). c.args.here + t.row < 2 ^ 32)) (sym c.as_slice.ensures)
@@ -34,22 +35,22 @@ append_from-requires c =
     (λ t lt. omega (arith, lt, few, here)) c.in_ok-path.path c.in_ok-path.ensures.path.name_edges)
 
 pub overflow_cast-count : goal.overflow_cast-count
-overflow_cast-count c = omega (arith, c.requires.ready.graph.graph.few)
+overflow_cast-count c = omega (arith, c.args.graph.now.graph.graph.few)
 
 pub overflow_add-behind : goal.overflow_add-behind
-overflow_add-behind c = omega (arith, c.requires.ready.graph.graph.few, c.requires.here)
+overflow_add-behind c = omega (arith, c.args.graph.now.graph.graph.few, c.requires.here)
 
 pub level_row-row-requires-clause-here : goal.level_row-row-requires-clause-here
 level_row-row-requires-clause-here c =
-    omega (arith, c.requires.ready.graph.graph.few, c.requires.here)
+    omega (arith, c.args.graph.now.graph.graph.few, c.requires.here)
 
 pub level_row-row-requires-clause-level : goal.level_row-row-requires-clause-level
 level_row-row-requires-clause-level c =
-    omega (arith, c.requires.level, (asked_fits c.args.w.now c.requires.ready.graph.asked).few_loops)
+    omega (arith, c.requires.level, (writes_fit c.args.graph.now.writes).few_loops)
 
 pub returns : goal.returns
 returns c =
-    let w = c.args.w.now in
+    let w = c.args.graph.now.writes in
     let edges = c.args.graph.now.edges.now in
     let bounds = c.args.graph.now.bounds.now in
     let choices = c.args.choices.now in
@@ -60,7 +61,8 @@ returns c =
     IfOk-weaker c.sum_with_row.result _ _
     (λ proof is. record {
       choice = item;
-      chosen = item_chosen w edges bounds r.ready r.chosen.0 choices r.chosen.1 c.args.level item r.level
+      chosen = item_chosen w edges bounds (ready_of c.args.graph.now) r.chosen.0 choices r.chosen.1 c.args.level item
+          r.level
           c.index-choices-level.is;
       path = path;
       is_path = c.in_ok-path.ensures.path;

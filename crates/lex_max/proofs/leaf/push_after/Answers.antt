@@ -10,7 +10,7 @@ use Rattle.source_tree.specs.Systems.{reader_place, with_rows}
 use Rattle.lex_max.proofs.leaf.push_after.Goals as goal
 
 pub same_proof-requires-clause-level : goal.same_proof-requires-clause-level
-same_proof-requires-clause-level c = level_same c.args.w.now c.requires.certs.3.leaf.asked c.if-w.true
+same_proof-requires-clause-level c = level_same c.args.w.now c.if-w.true
 
 pub returns-then-w : goal.returns-then-w
 returns-then-w c =

@@ -4,9 +4,6 @@ use Rattle.lex_max.proofs.LeafProofs.{proofs_more, proofs_none, proofs_whole}
 use Rattle.source_tree.specs.Systems.{with_rows}
 use Rattle.lex_max.proofs.leaf.push_levels.Goals as goal
 
-pub after_count-level-end-requires-clause-asked : goal.after_count-level-end-requires-clause-asked
-after_count-level-end-requires-clause-asked c = c.requires.certs.3.leaf.asked
-
 pub loop-level-init : goal.loop-level-init
 loop-level-init c cx context place k = proofs_none (with_rows cx) (after_levels c.args.w.now place) c.args.proofs.now
 

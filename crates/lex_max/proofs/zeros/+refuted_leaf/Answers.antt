@@ -6,19 +6,19 @@ use Rattle.lex_max.proofs.zeros.+refuted_leaf.Goals as goal
 
 pub refuted_by-requires-clause-cycle : goal.refuted_by-requires-clause-cycle
 refuted_by-requires-clause-cycle t c =
-    let h = c.requires.cycles in
-    let P = IsCycle c.args.w.now.vars h.0 in
+    let edges = c.args.graph.now.edges.now in
+    let P = IsCycle c.args.graph.now.writes.vars edges in
     let first : c.args.cycles.now ≡ c.in-Some.cycle.now ∷ c.in-Some.cycles.now = search rules in
-    (h.0, h.1, All-head P c.in-Some.cycle.now c.in-Some.cycles.now (subst (All P) first h.2))
+    All-head P c.in-Some.cycle.now c.in-Some.cycles.now (subst (All P) first c.requires.cycles)
 
 pub refuted_leaf-requires : goal.refuted_leaf-requires
 refuted_leaf-requires t c =
-    let h = c.requires.cycles in
-    let P = IsCycle c.args.w.now.vars h.0 in
+    let edges = c.args.graph.now.edges.now in
+    let P = IsCycle c.args.graph.now.writes.vars edges in
     let first : c.args.cycles.now ≡ c.in-Some.cycle.now ∷ c.in-Some.cycles.now = search rules in (
       omega (arith, ap length first),
       (
         c.requires.context,
-        (h.0, h.1, All-tail P c.in-Some.cycle.now c.in-Some.cycles.now (subst (All P) first h.2)),
+        All-tail P c.in-Some.cycle.now c.in-Some.cycles.now (subst (All P) first c.requires.cycles),
       ),
     )

@@ -9,32 +9,34 @@ use Rattle.tree_graphs.proofs.Small.{opposite_fits, opposite_form}
 use Rattle.lex_max.proofs.zeros.refuted_by.Goals as goal
 use Rattle.tree_sums.proofs.Within.{IsWithin-weaker}
 
-pub known_below-requires-clause-context : goal.known_below-requires-clause-context
-known_below-requires-clause-context c =
-    context_is c.args.w.now 0 c.args.context.now c.requires.cycle.1.asked c.requires.context
+pub invariant_of-here : goal.invariant_of-here
+invariant_of-here c =
+    record { fits = context_is c.args.graph.now.writes 0 c.args.context.now c.requires.context }
 
 pub known_below-requires-clause-over : goal.known_below-requires-clause-over
-known_below-requires-clause-over c = c.requires.cycle.2.over ∙ sym c.requires.context.vars
+known_below-requires-clause-over c = c.requires.cycle.over ∙ sym c.requires.context.vars
 
 pub known_below-requires-clause-small : goal.known_below-requires-clause-small
 known_below-requires-clause-small c =
-    IsWithin-weaker (2 ^ 40) (2 ^ 60) c.args.cycle.now.form (omega arith) c.requires.cycle.2.within
+    IsWithin-weaker (2 ^ 40) (2 ^ 60) c.args.cycle.now.form (omega arith) c.requires.cycle.within
 
 pub zero_leaf-leaf-requires-clause-refuted : goal.zero_leaf-leaf-requires-clause-refuted
 zero_leaf-leaf-requires-clause-refuted c =
-    let h = c.requires.cycle in
-    let w = c.args.w.now in
+    let edges = c.args.graph.now.edges.now in
+    let w = c.args.graph.now.writes in
     let context = c.args.context.now in
     let cycle = c.args.cycle.now in
     let shown = c.in-Some.shown in
     let row = opposite_form cycle.form in
-    let row_is = opposite_fits cycle.form (IsWithin-weaker (2 ^ 40) (2 ^ 60) cycle.form (omega arith) h.2.within) in
+    let row_is = opposite_fits cycle.form (IsWithin-weaker (2 ^ 40) (2 ^ 60) cycle.form (omega arith)
+    c.requires.cycle.within) in
     let told = subst (λ o. IfSome o (λ terms. (row : Form) → negation_of cycle.form ≡ Some row
     → IsFact context 65536 (form_parts row) terms)) c.in-Some.is c.in_ok-shown.ensures in
-    let against = known_contradicts w h.0 context cycle row shown c.requires.context.vars h.2 row_is
+    let against = known_contradicts w edges context cycle row shown c.requires.context.vars c.requires.cycle row_is
     (told row row_is) in (
-      h.0,
-      h.1,
-      subst (λ ts. IsContradiction context.vars context.rows h.0 ts c.as_slice-in-Some.result.now) (sym c.as_slice.ensures)
-          (subst (IsContradiction context.vars context.rows h.0 shown) (sym c.as_slice-in-Some.ensures) against),
+      edges,
+      c.args.graph.now.graph,
+      subst (λ ts. IsContradiction context.vars context.rows edges ts c.as_slice-in-Some.result.now)
+          (sym c.as_slice.ensures)
+          (subst (IsContradiction context.vars context.rows edges shown) (sym c.as_slice-in-Some.ensures) against),
     )

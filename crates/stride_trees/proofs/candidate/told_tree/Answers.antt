@@ -19,8 +19,8 @@ told-w-requires-clause-told c =
       c.in_ok-problem.ensures,
     )
 
-pub tree_of-requires-clause-context : goal.tree_of-requires-clause-context
-tree_of-requires-clause-context c =
+pub tree_of-requires : goal.tree_of-requires
+tree_of-requires c =
     context_is c.args.s.now c.requires.strided c.told-w.result c.args.context.now c.args.context.now.vars
     c.requires.context c.told-w.ensures.vars refl
 

@@ -4,7 +4,7 @@ use Rattle.std.proofs.lemmas.List.{take-append-drop}
 use Rattle.tree_sums.specs.Parts.{IsWithin}
 use Rattle.tree_graphs.specs.Joint.{IsSum}
 use Rattle.stride_trees.proofs.ProblemBounds.{all_within}
-use Rattle.stride_trees.proofs.LeafConversion.{all_parts}
+use Rattle.stride_trees.proofs.Lists.{all_parts}
 use Rattle.stride_trees.proofs.TestNodes.{fitting_of}
 use Rattle.stride_trees.proofs.ProofConversion.{placed_cuts, placed_refuted}
 use Rattle.stride_trees.proofs.convert.converted_place.Goals as goal

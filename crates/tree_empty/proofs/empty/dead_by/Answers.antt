@@ -9,8 +9,9 @@ use Rattle.tree_empty.proofs.empty.dead_by.Goals as goal
 
 pub returns-then-is_refuted-clause-joined : goal.returns-then-is_refuted-clause-joined
 returns-then-is_refuted-clause-joined c = λ pairs.
-    joined_dead pairs c.args.context.now (Sum c.args.terms) (Dead (Sum c.args.terms)) refl
-    (subst (λ told. OnTrue told (Refutes c.args.context.now.vars c.args.context.now.rows (Sum c.args.terms)))
+    joined_dead pairs c.args.context.now.system.now (Sum c.args.terms) (Dead (Sum c.args.terms)) refl
+    (subst (λ told. OnTrue told (Refutes c.args.context.now.system.now.vars c.args.context.now.system.now.rows
+    (Sum c.args.terms)))
     c.if-is_refuted.true c.is_refuted.ensures)
 
 pub returns-then-is_refuted-clause-low : goal.returns-then-is_refuted-clause-low

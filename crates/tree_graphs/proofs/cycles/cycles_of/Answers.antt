@@ -8,13 +8,13 @@ pub push_cycles-requires-clause-rest : goal.push_cycles-requires-clause-rest
 push_cycles-requires-clause-rest c = refl
 
 pub push_cycles-requires-clause-count : goal.push_cycles-requires-clause-count
-push_cycles-requires-clause-count c = omega (arith, c.requires.graph.graph.few)
+push_cycles-requires-clause-count c = omega (arith, c.args.graph.now.graph.graph.few)
 
 pub returns-clause-each : goal.returns-clause-each
 returns-clause-each c =
-    c.in_ok-push_cycles.ensures.each (subst (All (IsCycle c.args.w.now.vars c.args.graph.now.edges.now))
+    c.in_ok-push_cycles.ensures.each (subst (All (IsCycle c.args.graph.now.writes.vars c.args.graph.now.edges.now))
     (sym c.new-cycles.ensures) (All-nil _))
 
 pub returns-clause-count : goal.returns-clause-count
 returns-clause-count c =
-    omega (arith, c.in_ok-push_cycles.ensures.count, ap length c.new-cycles.ensures, c.requires.graph.graph.few)
+    omega (arith, c.in_ok-push_cycles.ensures.count, ap length c.new-cycles.ensures, c.args.graph.now.graph.graph.few)

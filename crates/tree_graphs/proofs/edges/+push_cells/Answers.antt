@@ -4,13 +4,13 @@ use Rattle.tree_graphs.specs.Asked.{depth_of_write}
 use Rattle.tree_graphs.proofs.EdgeRows.{adds_cells, cells_first, kept_twice}
 use Rattle.tree_graphs.proofs.edges.+push_cells.Goals as goal
 
-pub push_cell-requires-clause-cell : goal.push_cell-requires-clause-cell
-push_cell-requires-clause-cell t c =
+pub push_cell-requires : goal.push_cell-requires
+push_cell-requires t c =
     let first : c.args.writes.now ≡ c.in-Some-Some.write.now ∷ c.in-Some-Some.writes.now = search rules in
     let second : c.args.reads.now ≡ c.in-Some-Some.read.now ∷ c.in-Some-Some.reads.now = search rules in
     (cells_first c.args.w.now.vars (depth_of_write c.args.w.now) c.in-Some-Some.write.now c.in-Some-Some.read.now
     c.in-Some-Some.writes.now c.in-Some-Some.reads.now c.args.writes.now c.args.reads.now first second
-    c.requires.cells).0
+    c.requires).0
 
 pub push_cells-requires : goal.push_cells-requires
 push_cells-requires t c =
@@ -18,8 +18,8 @@ push_cells-requires t c =
     let second : c.args.reads.now ≡ c.in-Some-Some.read.now ∷ c.in-Some-Some.reads.now = search rules in
     let cells = cells_first c.args.w.now.vars (depth_of_write c.args.w.now) c.in-Some-Some.write.now
     c.in-Some-Some.read.now c.in-Some-Some.writes.now c.in-Some-Some.reads.now c.args.writes.now c.args.reads.now first
-    second c.requires.cells in
-    (omega (arith, ap length first), (c.requires.asked, cells.1))
+    second c.requires in
+    (omega (arith, ap length first), cells.1)
 
 pub returns-clause-rows : goal.returns-clause-rows
 returns-clause-rows t c =

@@ -1,11 +1,11 @@
 use Rattle.std.proofs.Common.{◌≡◌, ◌∷◌, rules, arith}
 use Rattle.std.proofs.lemmas.Result.{on_ok_weaker}
 use Rattle.tree_graphs.proofs.EdgeRows.{adds_domain, exact_domain}
-use Rattle.tree_graphs.proofs.ProblemBounds.{asked_fits}
+use Rattle.tree_graphs.proofs.ProblemBounds.{writes_fit}
 use Rattle.tree_graphs.proofs.edges.+push_domain.Goals as goal
 
 pub domain_edge-requires : goal.domain_edge-requires
-domain_edge-requires t c = omega (arith, (asked_fits c.args.w.now c.requires.asked).few_vars)
+domain_edge-requires t c = omega (arith, (writes_fit c.args.w.now).few_vars)
 
 pub returns-clause-rows : goal.returns-clause-rows
 returns-clause-rows t c =

@@ -5,7 +5,7 @@ use Rattle.affine_core.specs.declared.form.Form.{Form}
 use Rattle.affine_core.specs.Affine.{form_product, variable_form}
 use Rattle.tree_graphs.specs.Asked.{depth_of_read, depth_of_write}
 use Rattle.tree_graphs.proofs.EdgeRows.{kept_push, kept_twice}
-use Rattle.tree_graphs.proofs.ProblemBounds.{asked_fits}
+use Rattle.tree_graphs.proofs.ProblemBounds.{writes_fit}
 use Rattle.tree_graphs.proofs.OrderEdges.{adds_equal, adds_strict, variable_small}
 use Rattle.tree_graphs.proofs.edges.+push_order.Goals as goal
 
@@ -14,17 +14,17 @@ one_below g = record g { constant = g.constant +ℤ negsuc 0 }
 
 pub returns-then-from-w-clause-count : goal.returns-then-from-w-clause-count
 returns-then-from-w-clause-count t c =
-    let f = asked_fits c.args.w.now c.requires.asked in
-    omega (arith, f.level, f.common_loops, f.few_loops, c.requires.from)
+    let f = writes_fit c.args.w.now in
+    omega (arith, f.level, f.common_loops, f.few_loops, c.requires)
 
 pub variable-value-requires-clause-short : goal.variable-value-requires-clause-short
 variable-value-requires-clause-short t c =
-    omega (arith, (asked_fits c.args.w.now c.requires.asked).few_vars)
+    omega (arith, (writes_fit c.args.w.now).few_vars)
 
 pub variable-value-requires-clause-within : goal.variable-value-requires-clause-within
 variable-value-requires-clause-within t c =
-    let f = asked_fits c.args.w.now c.requires.asked in
-    omega (arith, f.common_within, c.requires.asked.common, c.if-from-w.false)
+    let f = writes_fit c.args.w.now in
+    omega (arith, f.common_within, c.args.w.now.loops, c.if-from-w.false)
 
 pub raised-requires-clause-small : goal.raised-requires-clause-small
 raised-requires-clause-small t c =
@@ -37,11 +37,11 @@ negative-requires t c =
 pub returns-then-from-w-2-clause-rows : goal.returns-then-from-w-2-clause-rows
 returns-then-from-w-2-clause-rows t c =
     let w = c.args.w.now in
-    let f = asked_fits w c.requires.asked in
+    let f = writes_fit w in
     let common : c.args.from < w.common = omega (arith, c.if-from-w.false) in
-    let below : c.args.from < w.vars = omega (arith, common, f.common_within, c.requires.asked.common) in
-    let own : c.args.from < depth_of_read w = omega (arith, common, f.common_vars, c.requires.asked.common) in
-    let inside : c.args.from < depth_of_write w = omega (arith, common, f.common_loops, c.requires.asked.common) in
+    let below : c.args.from < w.vars = omega (arith, common, f.common_within, c.args.w.now.loops) in
+    let own : c.args.from < depth_of_read w = omega (arith, common, f.common_vars, c.args.w.now.loops) in
+    let inside : c.args.from < depth_of_write w = omega (arith, common, f.common_loops, c.args.w.now.loops) in
     let last : w.level ≡ c.args.from = omega (arith, c.if-from-w-2.true) in
     let value : c.variable-value.result ≡ variable_form w.vars c.args.from =
     c.variable-value.ensures.form in
@@ -55,7 +55,7 @@ returns-then-from-w-2-clause-rows t c =
 
 pub returns-then-from-w-2-clause-count : goal.returns-then-from-w-2-clause-count
 returns-then-from-w-2-clause-count t c =
-    let f = asked_fits c.args.w.now c.requires.asked in
+    let f = writes_fit c.args.w.now in
     on_ok_weaker c.push.result
     (λ pushed. omega (
       arith,
@@ -64,7 +64,7 @@ returns-then-from-w-2-clause-count t c =
           (record { from = c.depth.result; to = c.args.from; weight = c.raised.result }),
       f.common_loops,
       f.few_loops,
-      c.requires.asked.common,
+      c.args.w.now.loops,
       c.if-from-w.false,
     ))
     c.push.ensures.ok
@@ -72,12 +72,12 @@ returns-then-from-w-2-clause-count t c =
 pub returns-clause-rows : goal.returns-clause-rows
 returns-clause-rows t c =
     let w = c.args.w.now in
-    let f = asked_fits w c.requires.asked in
+    let f = writes_fit w in
     let common : c.args.from < w.common = omega (arith, c.if-from-w.false) in
-    let below : c.args.from < w.vars = omega (arith, common, f.common_within, c.requires.asked.common) in
-    let own : c.args.from < depth_of_read w = omega (arith, common, f.common_vars, c.requires.asked.common) in
-    let inside : c.args.from < depth_of_write w = omega (arith, common, f.common_loops, c.requires.asked.common) in
-    let above : c.args.from < w.level = omega (arith, c.requires.from, c.if-from-w-2.false) in
+    let below : c.args.from < w.vars = omega (arith, common, f.common_within, c.args.w.now.loops) in
+    let own : c.args.from < depth_of_read w = omega (arith, common, f.common_vars, c.args.w.now.loops) in
+    let inside : c.args.from < depth_of_write w = omega (arith, common, f.common_loops, c.args.w.now.loops) in
+    let above : c.args.from < w.level = omega (arith, c.requires, c.if-from-w-2.false) in
     let value : c.variable-value.result ≡ variable_form w.vars c.args.from =
     c.variable-value.ensures.form in
     on_ok_weaker c.push_order.result

@@ -5,37 +5,37 @@ use Rattle.tree_graphs.specs.Asked.{depth_of_write}
 use Rattle.tree_graphs.specs.Edges.{node_of}
 use Rattle.tree_graphs.specs.declared.edges.Edge.{Edge}
 use Rattle.tree_graphs.proofs.EdgeRows.{adds_cell, constant_over, constant_small, kept_push, kept_twice, read_small}
-use Rattle.tree_graphs.proofs.ProblemBounds.{asked_fits}
+use Rattle.tree_graphs.proofs.ProblemBounds.{writes_fit}
 use Rattle.tree_graphs.proofs.edges.push_cell.Goals as goal
 
 pub constant_of-constant-requires : goal.constant_of-constant-requires
-constant_of-constant-requires c = omega (arith, (asked_fits c.args.w.now c.requires.asked).few_vars)
+constant_of-constant-requires c = omega (arith, (writes_fit c.args.w.now).few_vars)
 
 pub difference-requires-clause-over : goal.difference-requires-clause-over
 difference-requires-clause-over c = constant_over c.args.w.now.vars (depth_of_write c.args.w.now) c.args.write.now
-    c.constant_of-constant.result c.args.read.now c.requires.cell c.constant_of-constant.ensures
+    c.constant_of-constant.result c.args.read.now c.requires c.constant_of-constant.ensures
 
 pub difference-requires-clause-first : goal.difference-requires-clause-first
 difference-requires-clause-first c =
     constant_small c.args.w.now.vars (depth_of_write c.args.w.now) c.args.write.now c.args.read.now
-    c.constant_of-constant.result c.requires.cell c.constant_of-constant.ensures
+    c.constant_of-constant.result c.requires c.constant_of-constant.ensures
 
 pub difference-requires-clause-second : goal.difference-requires-clause-second
 difference-requires-clause-second c =
-    read_small c.args.w.now.vars (depth_of_write c.args.w.now) c.args.write.now c.args.read.now c.requires.cell
+    read_small c.args.w.now.vars (depth_of_write c.args.w.now) c.args.write.now c.args.read.now c.requires
 
 pub difference-requires-2-clause-over : goal.difference-requires-2-clause-over
 difference-requires-2-clause-over c = sym (constant_over c.args.w.now.vars (depth_of_write c.args.w.now)
-    c.args.write.now c.constant_of-constant.result c.args.read.now c.requires.cell c.constant_of-constant.ensures)
+    c.args.write.now c.constant_of-constant.result c.args.read.now c.requires c.constant_of-constant.ensures)
 
 pub difference-requires-2-clause-first : goal.difference-requires-2-clause-first
 difference-requires-2-clause-first c =
-    read_small c.args.w.now.vars (depth_of_write c.args.w.now) c.args.write.now c.args.read.now c.requires.cell
+    read_small c.args.w.now.vars (depth_of_write c.args.w.now) c.args.write.now c.args.read.now c.requires
 
 pub difference-requires-2-clause-second : goal.difference-requires-2-clause-second
 difference-requires-2-clause-second c =
     constant_small c.args.w.now.vars (depth_of_write c.args.w.now) c.args.write.now c.args.read.now
-    c.constant_of-constant.result c.requires.cell c.constant_of-constant.ensures
+    c.constant_of-constant.result c.requires c.constant_of-constant.ensures
 
 pub returns-clause-rows : goal.returns-clause-rows
 returns-clause-rows c =
@@ -56,7 +56,7 @@ returns-clause-rows c =
     (λ last. adds_cell w write read
     (record { from = c.variable_with-node.result; to = c.depth.result; weight = c.difference.result })
     (record { from = c.depth-2.result; to = c.variable_with-node.result; weight = c.difference-2.result })
-    c.args.edges.now c.push.new.self c.push-2.new.self c.requires.cell
+    c.args.edges.now c.push.new.self c.push-2.new.self c.requires
     (ap (λ n. record { from = n; to = c.depth.result; weight = c.difference.result }) node
     ∙ ap (λ n. record { from = node_of (pos 1) write.coefs; to = n; weight = c.difference.result }) c.depth.ensures
     ∙ ap (λ f. record { from = node_of (pos 1) write.coefs; to = depth_of_write w; weight = f }) first)

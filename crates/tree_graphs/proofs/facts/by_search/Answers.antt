@@ -9,9 +9,9 @@ use Rattle.tree_graphs.proofs.facts.by_search.Goals as goal
 
 pub returns : goal.returns
 returns c =
-    let context = c.args.context.now in
+    let context = c.args.context.now.system.now in
     let form = c.args.form.now in
-    fact_is context form c.in-Some.terms c.requires.context c.requires.over
+    fact_is context form c.in-Some.terms c.args.context.now.fits c.requires
     (subst (λ n. AreLight n (pos 65536) c.in-Some.terms) c.len.ensures
     (subst (λ ts. AreLight c.len.result (pos 65536) ts) c.as_slice.ensures c.if-not-are_light.ensures))
     (subst (λ ts. ProvesEntailment context.vars context.rows form (Sum (with_last context.rows ts)))

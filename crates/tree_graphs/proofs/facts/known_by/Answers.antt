@@ -9,11 +9,11 @@ use Rattle.tree_graphs.proofs.FactSums.{row_fact}
 use Rattle.tree_graphs.proofs.facts.known_by.Goals as goal
 
 pub row_with-requires : goal.row_with-requires
-row_with-requires c = omega (arith, ap length c.as_slice.ensures, c.requires.context.few)
+row_with-requires c = omega (arith, ap length c.as_slice.ensures, c.args.context.now.fits.few)
 
 pub returns-in_ok-once-in-Some-clause-some : goal.returns-in_ok-once-in-Some-clause-some
 returns-in_ok-once-in-Some-clause-some c =
-    let context = c.args.context.now in
+    let context = c.args.context.now.system.now in
     let form = c.args.form.now in
     let rows = c.as_slice.result.now in
     let h = subst
@@ -29,7 +29,7 @@ returns-in_ok-once-in-Some-clause-some c =
 
 pub returns-in-None-clause-none : goal.returns-in-None-clause-none
 returns-in-None-clause-none c =
-    let context = c.args.context.now in
+    let context = c.args.context.now.system.now in
     let form = c.args.form.now in
     let told : NoRowTells context.rows form =
     subst (λ rows. NoRowTells rows form) c.as_slice.ensures

@@ -2,7 +2,7 @@ use Rattle.std.proofs.Common.{◌≡◌, List, length, map, take, sym, ap, ◌�
 use Rattle.std.specs.Prelude.{All, Contains}
 use Rattle.tree_order.specs.Reads.{pair_in, pair_of, pairs_of, read_in}
 use Rattle.tree_join.proofs.Pairs.{pair_is}
-use Rattle.tree_graphs.specs.Asked.{depth_of_write, read_of, write_of, IsAsked}
+use Rattle.tree_graphs.specs.Asked.{depth_of_write, read_of, write_of}
 use Rattle.tree_graphs.specs.Cycles.{IsCycle}
 use Rattle.tree_graphs.specs.Closed.{IsClosure}
 use Rattle.tree_graphs.specs.Edges.{domain_edge_of, AreEdgesOf, IsGraph}
@@ -14,14 +14,14 @@ use Rattle.tree_join.proofs.candidates.candidate_of.Goals as goal
 
 pub closure_of-requires-clause-few : goal.closure_of-requires-clause-few
 closure_of-requires-clause-few c =
-    omega (arith, c.depth.ensures, c.writes_at-writes.ensures.asked.problem.few_loops)
+    omega (arith, c.depth.ensures, c.writes_at-writes.result.problem.few_loops)
 
 -- the graph of the rows
-graph_is : (w : Writes) (edges : List Edge) → IsAsked w → AreEdgesOf (read_of w) (write_of w) w.level edges
+graph_is : (w : Writes) (edges : List Edge) → AreEdgesOf (read_of w) (write_of w) w.level edges
     → IsGraph w.vars (depth_of_write w) edges
     → take (length w.rows.now) edges ≡ map (domain_edge_of w.vars) w.rows.now
     → IsGraphOf w edges
-graph_is w edges asked rows graph domain = record { asked = asked; edges_are = rows; graph = graph; starts = domain }
+graph_is w edges rows graph domain = record { edges_are = rows; graph = graph; starts = domain }
 
 pub returns-clause-candidate : goal.returns-clause-candidate
 returns-clause-candidate c =
@@ -37,12 +37,11 @@ returns-clause-candidate c =
     ∙ ap (λ u. record { read = read_in read problem; write = u }) is.write in
     record {
       joined = c.requires.joined;
-      asked = is.asked;
       pair = subst (Contains (pairs_of read)) (sym pair) (pair_is read problem c.requires.problem);
       vars = is.vars;
       checked = λ own made. answer.checked own (made.vars ∙ sym is.vars) made.rows;
       simple = simple_wider 3584 65536 c.in_ok-tree.tree (omega arith) answer.simple;
-      graph = graph_is w edges is.asked e.rows e.graph e.domain;
+      graph = graph_is w edges e.rows e.graph e.domain;
       closure = subst (λ e. IsClosure e (depth_of_write w) closure) c.as_slice.ensures
           (subst (λ n. IsClosure c.as_slice.result.now n closure) c.depth.ensures c.in_ok-closure.ensures);
       cycles = subst (λ e. All (IsCycle w.vars e) c.in_ok-cycles.cycles) c.as_slice-2.ensures c.in_ok-cycles.ensures;

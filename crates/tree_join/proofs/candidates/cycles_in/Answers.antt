@@ -6,8 +6,8 @@ use Rattle.tree_graphs.specs.Asked.{depth_of_write}
 use Rattle.tree_graphs.specs.Closed.{IsClosure}
 use Rattle.tree_join.proofs.candidates.cycles_in.Goals as goal
 
-pub cycles_of-requires-clause-closed : goal.cycles_of-requires-clause-closed
-cycles_of-requires-clause-closed c =
+pub invariant_of-graph-clause-closed : goal.invariant_of-graph-clause-closed
+invariant_of-graph-clause-closed c =
     subst (IsClosure c.args.edges.now (depth_of_write c.args.writes.now)) c.in-Closed.is c.requires.closure
 
 pub returns-in-Closed : goal.returns-in-Closed

@@ -1,4 +1,4 @@
-use Rattle.std.proofs.Common.{◌≡◌, ◌≤◌, length, refl, sym, subst, arith}
+use Rattle.std.proofs.Common.{◌≡◌, length, refl, sym, subst, arith}
 use Rattle.std.specs.Prelude.{IfOk}
 use Rattle.std.proofs.lemmas.Result.{IfOk-weaker}
 use Rattle.tree_order.specs.Comparisons.{HasNextLoop, IsComparison}
@@ -50,10 +50,10 @@ compare_points-requires-clause-points c =
     let h = c.requires.1.1.1 in
     (write_of h.0.candidate.now.writes, write_of c.args.at.candidate.now.writes, h.2.points)
 
-pub compare_points-requires-clause-context : goal.compare_points-requires-clause-context
-compare_points-requires-clause-context c =
+pub invariant_of-here : goal.invariant_of-here
+invariant_of-here c =
     let path = c.requires.1.0 in
-    path_context c.args.task.now.read.now c.args.walk.now.context _ path.read path.context_is
+    record { fits = path_context c.args.task.now.read.now c.args.walk.now.context _ path.read path.context_is }
 
 pub compare_points-requires-clause-so_far : goal.compare_points-requires-clause-so_far
 compare_points-requires-clause-so_far c =

@@ -3,9 +3,12 @@ use Rattle.std.proofs.lemmas.Result.{IfOk-weaker}
 use Rattle.tree_graphs.specs.Facts.{IsContext}
 use Rattle.tree_join.proofs.path.enter.Goals as goal
 
-pub dead_leaf-requires : goal.dead_leaf-requires
-dead_leaf-requires c =
-    subst (λ rows. IsContext (record c.args.context.now { rows = rows })) (sym c.in_ok-push.ensures.ok) c.requires
+pub invariant_of-here : goal.invariant_of-here
+invariant_of-here c =
+    record {
+      fits = subst (λ rows. IsContext (record c.args.context.now { rows = rows })) (sym c.in_ok-push.ensures.ok)
+          c.requires;
+    }
 
 pub returns-clause-context : goal.returns-clause-context
 returns-clause-context c =

@@ -7,7 +7,7 @@ use Rattle.tree_order.specs.Seen.{absent_at, best_in, sightings_of}
 use Rattle.tree_order.specs.declared.seen.Position.{Position}
 use Rattle.tree_graphs.proofs.Heights.{height_sides}
 use Rattle.tree_graphs.proofs.Nodes.{simple_kinds}
-use Rattle.tree_join.specs.Walking.{height, most_turns, AreSides}
+use Rattle.tree_join.specs.Walking.{height, most_turns}
 use Rattle.tree_join.specs.declared.path.Next.TheVariants.{Follow}
 use Rattle.tree_join.proofs.Advancing.{zero_on}
 use Rattle.tree_join.proofs.Moves.{above_within, below_over, below_within, ready_side}
@@ -21,13 +21,13 @@ use Rattle.source_tree.specs.declared.tree.Tree.TheVariants.{Zero}
 use Rattle.source_tree.proofs.Views.{kept_test}
 use Rattle.tree_join.proofs.path.follow_on.Goals as goal
 
-pub follow-requires-clause-context : goal.follow-requires-clause-context
-follow-requires-clause-context c =
+pub invariant_of-here : goal.invariant_of-here
+invariant_of-here c =
     let path = c.requires.1.0 in
-    path_context c.args.task.now.read.now c.args.walk.now.context _ path.read path.context_is
+    record { fits = path_context c.args.task.now.read.now c.args.walk.now.context _ path.read path.context_is }
 
-pub follow-requires-clause-node : goal.follow-requires-clause-node
-follow-requires-clause-node c = (c.args.at.candidate.now, c.requires.1.1.node)
+pub follow-requires : goal.follow-requires
+follow-requires c = (c.args.at.candidate.now, c.requires.1.1.node)
 
 pub ask-requires-clause-frames : goal.ask-requires-clause-frames
 ask-requires-clause-frames c = c.requires.0

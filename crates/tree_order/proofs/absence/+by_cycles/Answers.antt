@@ -17,61 +17,58 @@ use Rattle.tree_sums.proofs.Within.{IsWithin-weaker}
 
 pub opposite-requires : goal.opposite-requires
 opposite-requires t c =
-    let h = c.requires.cycles in
+    let h = c.requires in
     let first : c.args.cycles.now ≡ c.in-Some.cycle.now ∷ c.in-Some.cycles.now = search rules in
-    let one : IsCycle c.args.context.now.vars h.0 c.in-Some.cycle.now
-    = All-head (IsCycle c.args.context.now.vars h.0) c.in-Some.cycle.now c.in-Some.cycles.now
-    (subst (All (IsCycle c.args.context.now.vars h.0)) first h.2) in
+    let one : IsCycle c.args.context.now.system.now.vars h.0 c.in-Some.cycle.now
+    = All-head (IsCycle c.args.context.now.system.now.vars h.0) c.in-Some.cycle.now c.in-Some.cycles.now
+    (subst (All (IsCycle c.args.context.now.system.now.vars h.0)) first h.2) in
     IsWithin-weaker (2 ^ 40) (2 ^ 60) c.in-Some.cycle.now.form (omega arith) one.within
 
-pub known_by-requires-clause-over : goal.known_by-requires-clause-over
-known_by-requires-clause-over t c =
-    let h = c.requires.cycles in
+pub known_by-requires : goal.known_by-requires
+known_by-requires t c =
+    let h = c.requires in
     let first : c.args.cycles.now ≡ c.in-Some.cycle.now ∷ c.in-Some.cycles.now = search rules in
-    let one : IsCycle c.args.context.now.vars h.0 c.in-Some.cycle.now
-    = All-head (IsCycle c.args.context.now.vars h.0) c.in-Some.cycle.now c.in-Some.cycles.now
-    (subst (All (IsCycle c.args.context.now.vars h.0)) first h.2) in
+    let one : IsCycle c.args.context.now.system.now.vars h.0 c.in-Some.cycle.now
+    = All-head (IsCycle c.args.context.now.system.now.vars h.0) c.in-Some.cycle.now c.in-Some.cycles.now
+    (subst (All (IsCycle c.args.context.now.system.now.vars h.0)) first h.2) in
     negation_over c.in-Some.cycle.now.form c.opposite.result
     (IsWithin-weaker (2 ^ 40) (2 ^ 60) c.in-Some.cycle.now.form (omega arith) one.within) c.opposite.ensures ∙ one.over
 
-pub refutation-requires-clause-rows : goal.refutation-requires-clause-rows
-refutation-requires-clause-rows t c =
-    let h = c.requires.cycles in
+pub refutation-requires : goal.refutation-requires
+refutation-requires t c =
+    let h = c.requires in
     let first : c.args.cycles.now ≡ c.in-Some.cycle.now ∷ c.in-Some.cycles.now = search rules in
-    let one : IsCycle c.args.context.now.vars h.0 c.in-Some.cycle.now
-    = All-head (IsCycle c.args.context.now.vars h.0) c.in-Some.cycle.now c.in-Some.cycles.now
-    (subst (All (IsCycle c.args.context.now.vars h.0)) first h.2) in
-    subst (All (λ (t : Term). length c.args.context.now.rows + t.row < 2 ^ 32)) (sym c.as_slice-rows.ensures)
-    (rows_fit c.args.context.now h.0 c.in-Some.cycle.now.terms h.1 one.path.name_edges)
+    let one : IsCycle c.args.context.now.system.now.vars h.0 c.in-Some.cycle.now
+    = All-head (IsCycle c.args.context.now.system.now.vars h.0) c.in-Some.cycle.now c.in-Some.cycles.now
+    (subst (All (IsCycle c.args.context.now.system.now.vars h.0)) first h.2) in
+    subst (All (λ (t : Term). length c.args.context.now.system.now.rows + t.row < 2 ^ 32)) (sym c.as_slice-rows.ensures)
+    (rows_fit c.args.context.now.system.now h.0 c.in-Some.cycle.now.terms h.1 one.path.name_edges)
 
 pub by_cycles-requires : goal.by_cycles-requires
 by_cycles-requires t c =
-    let h = c.requires.cycles in
+    let h = c.requires in
     let first : c.args.cycles.now ≡ c.in-Some.cycle.now ∷ c.in-Some.cycles.now = search rules in (
       omega (arith, ap length first),
       (
-        c.requires.context,
-        (
-          h.0,
-          h.1,
-          All-tail (IsCycle c.args.context.now.vars h.0) c.in-Some.cycle.now c.in-Some.cycles.now
-              (subst (All (IsCycle c.args.context.now.vars h.0)) first h.2),
-        ),
+        h.0,
+        h.1,
+        All-tail (IsCycle c.args.context.now.system.now.vars h.0) c.in-Some.cycle.now c.in-Some.cycles.now
+            (subst (All (IsCycle c.args.context.now.system.now.vars h.0)) first h.2),
       ),
     )
 
 pub returns-in_default-clause-none : goal.returns-in_default-clause-none
 returns-in_default-clause-none t c =
     let none : c.args.cycles.now ≡ [] = nil_from_length c.args.cycles.now c.in_default.ensures.cases in
-    subst (All (NoRowRefutesCycle c.args.context.now)) (sym none) (All-nil _)
+    subst (All (NoRowRefutesCycle c.args.context.now.system.now)) (sym none) (All-nil _)
 
 pub returns-in_ok-refutation-in-Some-found-clause-some : goal.returns-in_ok-refutation-in-Some-found-clause-some
 returns-in_ok-refutation-in-Some-found-clause-some t c = λ edges fit all.
     let first : c.args.cycles.now ≡ c.in-Some.cycle.now ∷ c.in-Some.cycles.now = search rules in
-    let one : IsCycle c.args.context.now.vars edges c.in-Some.cycle.now
-    = All-head (IsCycle c.args.context.now.vars edges) c.in-Some.cycle.now c.in-Some.cycles.now
-    (subst (All (IsCycle c.args.context.now.vars edges)) first all) in
-    let context = c.args.context.now in
+    let one : IsCycle c.args.context.now.system.now.vars edges c.in-Some.cycle.now
+    = All-head (IsCycle c.args.context.now.system.now.vars edges) c.in-Some.cycle.now c.in-Some.cycles.now
+    (subst (All (IsCycle c.args.context.now.system.now.vars edges)) first all) in
+    let context = c.args.context.now.system.now in
     let shown = c.in-Some-found.shown in
     let fact = subst (λ o. IfSome o (IsFact context 65536 (form_parts c.opposite.result))) c.in-Some-found.is
     c.in_ok-found.ensures.some in
@@ -86,12 +83,14 @@ returns-in-None-clause-some t c =
     let first : c.args.cycles.now ≡ c.in-Some.cycle.now ∷ c.in-Some.cycles.now = search rules in
     IfOk-weaker c.by_cycles.result _ _
     (λ found h. IfSome_then found h
-    (λ ts rest edges fit all. rest edges fit (All-tail (IsCycle c.args.context.now.vars edges) c.in-Some.cycle.now
-    c.in-Some.cycles.now (subst (All (IsCycle c.args.context.now.vars edges)) first all)))) c.by_cycles.ensures.some
+    (λ ts rest edges fit all. rest edges fit (All-tail (IsCycle c.args.context.now.system.now.vars edges)
+    c.in-Some.cycle.now
+    c.in-Some.cycles.now (subst (All (IsCycle c.args.context.now.system.now.vars edges)) first all))))
+    c.by_cycles.ensures.some
 
 pub returns-in-None-clause-none : goal.returns-in-None-clause-none
 returns-in-None-clause-none t c =
-    let context = c.args.context.now in
+    let context = c.args.context.now.system.now in
     let cycle = c.in-Some.cycle.now in
     let first : c.args.cycles.now ≡ cycle ∷ c.in-Some.cycles.now = search rules in
     let told = subst (λ o. IfNone o (NoRowTells context.rows c.opposite.result)) c.in-None.is c.in_ok-found.ensures.none in

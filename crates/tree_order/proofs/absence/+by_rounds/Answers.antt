@@ -7,32 +7,31 @@ use Rattle.tree_order.proofs.Rounds.{back_next}
 use Rattle.tree_graphs.specs.declared.edges.Edge.{Edge}
 use Rattle.tree_order.proofs.absence.+by_rounds.Goals as goal
 
-pub by_back-requires-clause-back : goal.by_back-requires-clause-back
-by_back-requires-clause-back t c =
+pub by_back-requires : goal.by_back-requires
+by_back-requires t c =
     let first : c.args.backs.now ≡ c.in-Some.back.now ∷ c.in-Some.backs.now = search rules in
-    let a = c.requires.backs in (
+    let a = c.requires in (
       a.0,
       a.1,
       c.in-Some.backs.now,
-      subst (λ backs. AreBack c.args.context.now a.0 a.1 c.args.bounds.now c.args.zero
+      subst (λ backs. AreBack c.args.context.now.system.now a.0 a.1 c.args.bounds.now c.args.zero
           c.args.outs.edges.now c.args.outs.first backs c.args.number) first a.2,
     )
 
 pub by_rounds-requires : goal.by_rounds-requires
 by_rounds-requires t c =
     let first : c.args.backs.now ≡ c.in-Some.back.now ∷ c.in-Some.backs.now = search rules in
-    let a = c.requires.backs in (
+    let a = c.requires in (
       omega (arith, ap length first),
       (
-        c.requires.context,
-        (
-          a.0,
-          a.1,
-          back_next c.args.context.now a.0 a.1 c.args.bounds.now c.args.zero c.args.outs.edges.now c.args.outs.first
-              c.in-Some.back.now c.in-Some.backs.now c.args.number
-              (subst (λ backs. AreBack c.args.context.now a.0 a.1 c.args.bounds.now c.args.zero c.args.outs.edges.now
-              c.args.outs.first backs c.args.number) first a.2),
-        ),
+        a.0,
+        a.1,
+        back_next c.args.context.now.system.now a.0 a.1 c.args.bounds.now c.args.zero c.args.outs.edges.now
+            c.args.outs.first
+            c.in-Some.back.now c.in-Some.backs.now c.args.number
+            (subst (λ backs. AreBack c.args.context.now.system.now a.0 a.1 c.args.bounds.now c.args.zero
+            c.args.outs.edges.now
+            c.args.outs.first backs c.args.number) first a.2),
       ),
     )
 
@@ -40,13 +39,15 @@ pub returns-in-Some-found : goal.returns-in-Some-found
 returns-in-Some-found t c = λ own edges a.
     let first : c.args.backs.now ≡ c.in-Some.back.now ∷ c.in-Some.backs.now = search rules in
     let told = subst (λ o. IfSome o (λ ts. (own edges : List Edge)
-    → AreBack c.args.context.now own edges c.args.bounds.now c.args.zero c.args.outs.edges.now c.args.outs.first
+    → AreBack c.args.context.now.system.now own edges c.args.bounds.now c.args.zero c.args.outs.edges.now
+    c.args.outs.first
     c.in-Some.backs.now (c.args.number + 1)
-    → IsContradicted c.args.context.now edges ts)) c.in-Some-found.is c.in_ok-found.ensures in
+    → IsContradicted c.args.context.now.system.now edges ts)) c.in-Some-found.is c.in_ok-found.ensures in
     told own edges
-    (back_next c.args.context.now own edges c.args.bounds.now c.args.zero c.args.outs.edges.now c.args.outs.first
+    (back_next c.args.context.now.system.now own edges c.args.bounds.now c.args.zero c.args.outs.edges.now
+    c.args.outs.first
     c.in-Some.back.now c.in-Some.backs.now c.args.number
-    (subst (λ backs. AreBack c.args.context.now own edges c.args.bounds.now c.args.zero c.args.outs.edges.now
+    (subst (λ backs. AreBack c.args.context.now.system.now own edges c.args.bounds.now c.args.zero c.args.outs.edges.now
     c.args.outs.first backs c.args.number) first a))
 
 pub returns-in-None : goal.returns-in-None
@@ -56,5 +57,5 @@ returns-in-None t c =
     (λ found h. IfSome_then found h
     (λ ts told own edges a.
     told own edges c.in-Some.backs.now
-    (subst (λ backs. AreBack c.args.context.now own edges c.args.bounds.now c.args.zero c.args.outs.edges.now
+    (subst (λ backs. AreBack c.args.context.now.system.now own edges c.args.bounds.now c.args.zero c.args.outs.edges.now
     c.args.outs.first backs c.args.number) first a))) c.by_back.ensures

@@ -13,8 +13,8 @@ use Rattle.tree_graphs.proofs.FactLemmas.{none_then}
 use Rattle.tree_order.proofs.Rounds.{negative_is_contradicted, own_fits, rows_fit}
 use Rattle.tree_order.proofs.absence.absence_of.Goals as goal
 
-pub refutation-requires-clause-rows : goal.refutation-requires-clause-rows
-refutation-requires-clause-rows c =
+pub refutation-requires : goal.refutation-requires
+refutation-requires c =
     let a = c.requires.candidate in
     let candidate = c.args.candidate.now in
     let context = c.args.context.now in
@@ -35,12 +35,12 @@ returns-in_ok-refutation-in-Negative-clause-some c =
     (c.in_ok-refutation-in-Negative.ensures
     ∙ ap (λ rows. [] ++ terms_from (length context.rows) rows) c.as_slice.ensures)
 
-pub by_cycles-requires-clause-context : goal.by_cycles-requires-clause-context
-by_cycles-requires-clause-context c = let a = c.requires.candidate
-    in candidate_context a.0 c.args.context.now 0 c.args.candidate.now a.1 c.requires.context
+pub invariant_of-here : goal.invariant_of-here
+invariant_of-here c = let a = c.requires.candidate
+    in record { fits = candidate_context a.0 c.args.context.now 0 c.args.candidate.now a.1 c.requires.context }
 
-pub by_cycles-requires-clause-cycles : goal.by_cycles-requires-clause-cycles
-by_cycles-requires-clause-cycles c =
+pub by_cycles-requires : goal.by_cycles-requires
+by_cycles-requires c =
     let a = c.requires.candidate in
     let candidate = c.args.candidate.now in
     let context = c.args.context.now in (

@@ -10,12 +10,12 @@ use Rattle.tree_order.proofs.Rounds.{numbered_behind, numbered_first, with_order
 use Rattle.tree_graphs.specs.declared.edges.Edge.{Edge}
 use Rattle.tree_order.proofs.absence.by_orders.Goals as goal
 
-pub by_rounds-requires-clause-context : goal.by_rounds-requires-clause-context
-by_rounds-requires-clause-context c = let a = c.requires.candidate
-    in candidate_context a.0 c.args.context.now 0 c.args.candidate.now a.1 c.requires.context
+pub invariant_of-here : goal.invariant_of-here
+invariant_of-here c = let a = c.requires.candidate
+    in record { fits = candidate_context a.0 c.args.context.now 0 c.args.candidate.now a.1 c.requires.context }
 
-pub by_rounds-requires-clause-backs : goal.by_rounds-requires-clause-backs
-by_rounds-requires-clause-backs c =
+pub by_rounds-requires : goal.by_rounds-requires
+by_rounds-requires c =
     let a = c.requires.candidate in
     let edges = c.args.candidate.now.edges in
     let orders = c.args.orders.now in
@@ -46,12 +46,8 @@ returns-in-Some c =
     c.depth-zero.result 0 c.len-behind.result a.1 c.requires.bounds c.requires.context c.requires.orders
     c.requires.few first numbered)
 
-pub by_rounds-requires-2-clause-context : goal.by_rounds-requires-2-clause-context
-by_rounds-requires-2-clause-context c = let a = c.requires.candidate
-    in candidate_context a.0 c.args.context.now 0 c.args.candidate.now a.1 c.requires.context
-
-pub by_rounds-requires-2-clause-backs : goal.by_rounds-requires-2-clause-backs
-by_rounds-requires-2-clause-backs c =
+pub by_rounds-requires-2 : goal.by_rounds-requires-2
+by_rounds-requires-2 c =
     let a = c.requires.candidate in
     let edges = c.args.candidate.now.edges in
     let orders = c.args.orders.now in
@@ -78,12 +74,8 @@ returns-in-Some-by_order c =
     c.len-behind.result c.len-behind.result a.1 c.requires.bounds c.requires.context c.requires.orders
     c.requires.few numbered numbered)
 
-pub by_rounds-requires-3-clause-context : goal.by_rounds-requires-3-clause-context
-by_rounds-requires-3-clause-context c = let a = c.requires.candidate
-    in candidate_context a.0 c.args.context.now 0 c.args.candidate.now a.1 c.requires.context
-
-pub by_rounds-requires-3-clause-backs : goal.by_rounds-requires-3-clause-backs
-by_rounds-requires-3-clause-backs c =
+pub by_rounds-requires-3 : goal.by_rounds-requires-3
+by_rounds-requires-3 c =
     let a = c.requires.candidate in
     let edges = c.args.candidate.now.edges in
     let orders = c.args.orders.now in

@@ -19,27 +19,28 @@ use Rattle.tree_order.proofs.absence.by_round.Goals as goal
 
 pub sum-requires-clause-over : goal.sum-requires-clause-over
 sum-requires-clause-over c =
-    let a = c.requires.round in
-    even a.0 c.args.context.now.vars c.args.out.now c.args.back.now c.args.bound.now c.args.out_number
+    let a = c.requires in
+    even a.0 c.args.context.now.system.now.vars c.args.out.now c.args.back.now c.args.bound.now c.args.out_number
     c.args.back_number a.2
 
 pub sum-requires-clause-first : goal.sum-requires-clause-first
-sum-requires-clause-first c = let a = c.requires.round
+sum-requires-clause-first c = let a = c.requires
     in IsWithin-weaker (2 ^ 49) (2 ^ 60) c.args.out.now.weight (omega arith) a.2.out_near.within
 
 pub sum-requires-clause-second : goal.sum-requires-clause-second
-sum-requires-clause-second c = let a = c.requires.round
+sum-requires-clause-second c = let a = c.requires
     in IsWithin-weaker (2 ^ 49) (2 ^ 60) c.args.back.now.weight (omega arith) a.2.back_near.within
 
 pub form_beyond-form-requires-clause-form : goal.form_beyond-form-requires-clause-form
 form_beyond-form-requires-clause-form c =
-    let a = c.requires.round in
+    let a = c.requires in
     subst (IsWithin (2 ^ 60)) (sym c.sum.ensures)
-    (IsWithin-weaker (2 ^ 50) (2 ^ 60) _ (omega arith) (sum_small a.0 c.args.context.now.vars c.args.out.now c.args.back.now
+    (IsWithin-weaker (2 ^ 50) (2 ^ 60) _ (omega arith) (sum_small a.0 c.args.context.now.system.now.vars c.args.out.now
+    c.args.back.now
     c.args.bound.now c.args.out_number c.args.back_number a.2))
 
 pub form_beyond-form-requires-clause-bound : goal.form_beyond-form-requires-clause-bound
-form_beyond-form-requires-clause-bound c = let a = c.requires.round in omega (arith, a.2.path.near)
+form_beyond-form-requires-clause-bound c = let a = c.requires in omega (arith, a.2.path.near)
 
 -- the form of the round
 abbrev raised_by : ℤ → Form → Form
@@ -51,22 +52,22 @@ form_is out back bound total form e f = f ∙ ap (raised_by bound.value) e
 
 pub opposite-requires : goal.opposite-requires
 opposite-requires c =
-    let a = c.requires.round in
+    let a = c.requires in
     let is = form_is c.args.out.now c.args.back.now c.args.bound.now c.sum.result c.form_beyond-form.result
     c.sum.ensures c.form_beyond-form.ensures in
-    subst (IsWithin (2 ^ 60)) (sym is) (form_small a.0 c.args.context.now.vars c.args.out.now c.args.back.now
+    subst (IsWithin (2 ^ 60)) (sym is) (form_small a.0 c.args.context.now.system.now.vars c.args.out.now c.args.back.now
     c.args.bound.now c.args.out_number c.args.back_number a.2)
 
-pub known_by-requires-clause-over : goal.known_by-requires-clause-over
-known_by-requires-clause-over c =
-    let a = c.requires.round in
+pub known_by-requires : goal.known_by-requires
+known_by-requires c =
+    let a = c.requires in
     let is = form_is c.args.out.now c.args.back.now c.args.bound.now c.sum.result c.form_beyond-form.result
     c.sum.ensures c.form_beyond-form.ensures in
-    let small = subst (IsWithin (2 ^ 60)) (sym is) (form_small a.0 c.args.context.now.vars c.args.out.now
+    let small = subst (IsWithin (2 ^ 60)) (sym is) (form_small a.0 c.args.context.now.system.now.vars c.args.out.now
     c.args.back.now c.args.bound.now c.args.out_number c.args.back_number a.2) in
     negation_over c.form_beyond-form.result c.opposite.result small c.opposite.ensures
     ∙ ap (λ (f : Form). length f.coefs) is
-    ∙ form_over a.0 c.args.context.now.vars c.args.out.now c.args.back.now c.args.bound.now c.args.out_number
+    ∙ form_over a.0 c.args.context.now.system.now.vars c.args.out.now c.args.back.now c.args.bound.now c.args.out_number
     c.args.back_number a.2
 
 -- the rows of the round
@@ -77,13 +78,13 @@ rows_are first last terms middle none one two three e f g h i =
     i ∙ ap (λ ts. ts ++ last ∷ [])
     (g ∙ ap (λ ts. ts ++ middle) (f ∙ ap (λ ts. ts ++ first ∷ []) e) ∙ ap (λ ts. (first ∷ []) ++ ts) h)
 
-pub refutation-requires-clause-rows : goal.refutation-requires-clause-rows
-refutation-requires-clause-rows c =
-    let a = c.requires.round in
+pub refutation-requires : goal.refutation-requires
+refutation-requires c =
+    let a = c.requires in
     let bound = c.args.bound.now in
-    let named = rows_named a.0 c.args.context.now.vars c.args.out.now c.args.back.now bound c.args.out_number
+    let named = rows_named a.0 c.args.context.now.system.now.vars c.args.out.now c.args.back.now bound c.args.out_number
     c.args.back_number a.2 in
-    let context = c.args.context.now in
+    let context = c.args.context.now.system.now in
     let is = rows_are (term_of c.args.out_number) (term_of c.args.back_number) bound.terms c.as_slice.result.now
     c.new-rows.result c.push.new.self c.append.new.out c.push-2.new.self c.new-rows.ensures
     c.in_ok-push.ensures.ok c.in_ok-append.ensures c.as_slice.ensures c.in_ok-push-2.ensures.ok in
@@ -92,7 +93,7 @@ refutation-requires-clause-rows c =
 
 pub returns : goal.returns
 returns c = λ edges fit a.
-    let context = c.args.context.now in
+    let context = c.args.context.now.system.now in
     let out = c.args.out.now in
     let back = c.args.back.now in
     let bound = c.args.bound.now in

@@ -6,7 +6,7 @@ use Rattle.tree_order.proofs.absence.refutation.Goals as goal
 
 pub append_from-requires : goal.append_from-requires
 append_from-requires c =
-    subst (λ n. All (λ (t : Term). n + t.row < 2 ^ 32) c.args.rows.now) (sym c.len.ensures) c.requires.rows
+    subst (λ n. All (λ (t : Term). n + t.row < 2 ^ 32) c.args.rows.now) (sym c.len.ensures) c.requires
 
 pub returns : goal.returns
 returns c =

@@ -16,74 +16,78 @@ use Rattle.tree_sums.proofs.Within.{IsWithin-weaker}
 pub gap-more-requires-clause-first : goal.gap-more-requires-clause-first
 gap-more-requires-clause-first t c =
     let p = c.requires.points in
-    next_best c.args.context.now.vars p.0 p.1 c.args.pair.now p.2 c.len-at.result (omega (arith, c.if-at-pair.false))
+    next_best c.args.context.now.system.now.vars p.0 p.1 c.args.pair.now p.2 c.len-at.result (omega
+    (arith, c.if-at-pair.false))
 
 pub gap-more-requires-clause-second : goal.gap-more-requires-clause-second
 gap-more-requires-clause-second t c =
     let p = c.requires.points in
-    next_new c.args.context.now.vars p.0 p.1 c.args.pair.now p.2 c.len-at.result (omega (arith, c.if-at-pair.false))
+    next_new c.args.context.now.system.now.vars p.0 p.1 c.args.pair.now p.2 c.len-at.result (omega
+    (arith, c.if-at-pair.false))
 
 pub gap-more-requires-clause-forms : goal.gap-more-requires-clause-forms
 gap-more-requires-clause-forms t c = let p = c.requires.points
-    in (c.args.context.now.vars, p.2.best_forms, p.2.new_forms)
+    in (c.args.context.now.system.now.vars, p.2.best_forms, p.2.new_forms)
 
 pub gap-less-requires-clause-first : goal.gap-less-requires-clause-first
 gap-less-requires-clause-first t c =
     let p = c.requires.points in
-    next_new c.args.context.now.vars p.0 p.1 c.args.pair.now p.2 c.len-at.result (omega (arith, c.if-at-pair.false))
+    next_new c.args.context.now.system.now.vars p.0 p.1 c.args.pair.now p.2 c.len-at.result (omega
+    (arith, c.if-at-pair.false))
 
 pub gap-less-requires-clause-second : goal.gap-less-requires-clause-second
 gap-less-requires-clause-second t c =
     let p = c.requires.points in
-    next_best c.args.context.now.vars p.0 p.1 c.args.pair.now p.2 c.len-at.result (omega (arith, c.if-at-pair.false))
+    next_best c.args.context.now.system.now.vars p.0 p.1 c.args.pair.now p.2 c.len-at.result (omega
+    (arith, c.if-at-pair.false))
 
 pub gap-less-requires-clause-forms : goal.gap-less-requires-clause-forms
 gap-less-requires-clause-forms t c = let p = c.requires.points
-    in (c.args.context.now.vars, p.2.new_forms, p.2.best_forms)
+    in (c.args.context.now.system.now.vars, p.2.new_forms, p.2.best_forms)
 
 pub less_one-requires : goal.less_one-requires
 less_one-requires t c =
     let p = c.requires.points in
-    let g = c.gap-more.ensures c.args.context.now.vars p.2.best_forms p.2.new_forms in
+    let g = c.gap-more.ensures c.args.context.now.system.now.vars p.2.best_forms p.2.new_forms in
     IsWithin-weaker (2 ^ 49) (2 ^ 60) c.gap-more.result (omega arith) g.within
 
-pub known-requires-clause-over : goal.known-requires-clause-over
-known-requires-clause-over t c =
+pub known-requires : goal.known-requires
+known-requires t c =
     let p = c.requires.points in
-    let g = c.gap-more.ensures c.args.context.now.vars p.2.best_forms p.2.new_forms in
+    let g = c.gap-more.ensures c.args.context.now.system.now.vars p.2.best_forms p.2.new_forms in
     ap (λ (f : Form). length f.coefs) c.less_one.ensures ∙ g.over
 
 pub less_one-requires-2 : goal.less_one-requires-2
 less_one-requires-2 t c =
     let p = c.requires.points in
-    let g = c.gap-less.ensures c.args.context.now.vars p.2.new_forms p.2.best_forms in
+    let g = c.gap-less.ensures c.args.context.now.system.now.vars p.2.new_forms p.2.best_forms in
     IsWithin-weaker (2 ^ 49) (2 ^ 60) c.gap-less.result (omega arith) g.within
 
-pub known-requires-2-clause-over : goal.known-requires-2-clause-over
-known-requires-2-clause-over t c =
+pub known-requires-2 : goal.known-requires-2
+known-requires-2 t c =
     let p = c.requires.points in
-    let g = c.gap-less.ensures c.args.context.now.vars p.2.new_forms p.2.best_forms in
+    let g = c.gap-less.ensures c.args.context.now.system.now.vars p.2.new_forms p.2.best_forms in
     ap (λ (f : Form). length f.coefs) c.less_one-3.ensures ∙ g.over
 
-pub had_or_known-requires-clause-over : goal.had_or_known-requires-clause-over
-had_or_known-requires-clause-over t c =
+pub had_or_known-requires : goal.had_or_known-requires
+had_or_known-requires t c =
     let p = c.requires.points in
-    (c.gap-more.ensures c.args.context.now.vars p.2.best_forms p.2.new_forms).over
+    (c.gap-more.ensures c.args.context.now.system.now.vars p.2.best_forms p.2.new_forms).over
 
-pub had_or_known-requires-2-clause-over : goal.had_or_known-requires-2-clause-over
-had_or_known-requires-2-clause-over t c =
+pub had_or_known-requires-2 : goal.had_or_known-requires-2
+had_or_known-requires-2 t c =
     let p = c.requires.points in
-    (c.gap-less.ensures c.args.context.now.vars p.2.new_forms p.2.best_forms).over
+    (c.gap-less.ensures c.args.context.now.system.now.vars p.2.new_forms p.2.best_forms).over
 
 pub returns-then-at-pair-clause-order : goal.returns-then-at-pair-clause-order
 returns-then-at-pair-clause-order t c =
     IfOk-weaker c.by_text.result _ _
-    (λ comparison h w u p. h c.args.context.now w u p c.requires.so_far.equal
+    (λ comparison h w u p. h c.args.context.now.system.now w u p c.requires.so_far.equal
     (omega (arith, c.if-at-pair.true, c.len-at.ensures, c.requires.so_far.few))) c.by_text.ensures.order
 
 pub returns-in-Some-clause-order : goal.returns-in-Some-clause-order
 returns-in-Some-clause-order t c = λ w u p.
-    let context = c.args.context.now in
+    let context = c.args.context.now.system.now in
     let pair = c.args.pair.now in
     let equal = c.args.compared.equal in
     let lt : length equal < pair.common = omega (arith, c.if-at-pair.false, c.len-at.ensures) in
@@ -99,7 +103,7 @@ returns-in-Some-clause-order t c = λ w u p.
 
 pub returns-in-Some-is_more-clause-order : goal.returns-in-Some-is_more-clause-order
 returns-in-Some-is_more-clause-order t c =
-    let context = c.args.context.now in
+    let context = c.args.context.now.system.now in
     let pair = c.args.pair.now in
     let equal = c.args.compared.equal in
     let terms = c.in-Some-is_more.terms in
@@ -122,7 +126,7 @@ returns-in-Some-is_more-clause-order t c =
 
 pub returns-in_default-upper-clause-order : goal.returns-in_default-upper-clause-order
 returns-in_default-upper-clause-order t c = λ w u p.
-    let context = c.args.context.now in
+    let context = c.args.context.now.system.now in
     let pair = c.args.pair.now in
     let equal = c.args.compared.equal in
     let l = length equal in
@@ -139,7 +143,7 @@ returns-in_default-upper-clause-order t c = λ w u p.
 
 pub returns-in_default-lower-clause-order : goal.returns-in_default-lower-clause-order
 returns-in_default-lower-clause-order t c = λ w u p.
-    let context = c.args.context.now in
+    let context = c.args.context.now.system.now in
     let pair = c.args.pair.now in
     let equal = c.args.compared.equal in
     let l = length equal in
@@ -157,7 +161,7 @@ pub compare_points-requires : goal.compare_points-requires
 compare_points-requires t c =
     let q = c.requires.points in
     let p = q.2 in
-    let context = c.args.context.now in
+    let context = c.args.context.now.system.now in
     let pair = c.args.pair.now in
     let equal = c.args.compared.equal in
     let l = length equal in
@@ -180,18 +184,15 @@ compare_points-requires t c =
       omega (arith, lt, longer),
       (
         q,
-        (
-          c.requires.context,
-          record {
-            few = omega (arith, lt, longer);
-            equal = subst (AreEqual context 65536 pair.new.now pair.best.now) (sym c.in_ok-one_more.ensures.equal)
-                (one_more_equal context q.0 q.1 pair p equal c.requires.so_far.equal lt above below upper lower);
-            upper = subst (IsHad context (length next.equal) pair.best.now pair.new.now)
-                (sym c.in_ok-one_more.ensures.upper) tt;
-            lower = subst (IsHad context (length next.equal) pair.new.now pair.best.now)
-                (sym c.in_ok-one_more.ensures.lower) tt;
-          },
-        ),
+        record {
+          few = omega (arith, lt, longer);
+          equal = subst (AreEqual context 65536 pair.new.now pair.best.now) (sym c.in_ok-one_more.ensures.equal)
+              (one_more_equal context q.0 q.1 pair p equal c.requires.so_far.equal lt above below upper lower);
+          upper = subst (IsHad context (length next.equal) pair.best.now pair.new.now)
+              (sym c.in_ok-one_more.ensures.upper) tt;
+          lower = subst (IsHad context (length next.equal) pair.new.now pair.best.now)
+              (sym c.in_ok-one_more.ensures.lower) tt;
+        },
       ),
     )
 

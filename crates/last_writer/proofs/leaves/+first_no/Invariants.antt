@@ -1,5 +1,0 @@
-use Rattle.std.proofs.Common.{length}
-use Rattle.last_writer.proofs.leaves.+first_no.Given as goal
-
-abbrev pub decreases-first_no : goal.decreases-first_no
-decreases-first_no l = length l.places.now

@@ -1,4 +1,0 @@
-use Rattle.last_writer.proofs.leaves.+push_counts.Given as goal
-
-abbrev pub decreases-push_counts : goal.decreases-push_counts
-decreases-push_counts l = l.more

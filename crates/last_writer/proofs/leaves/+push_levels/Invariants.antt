@@ -1,5 +1,0 @@
-use Rattle.std.proofs.Common.{length}
-use Rattle.last_writer.proofs.leaves.+push_levels.Given as goal
-
-abbrev pub decreases-push_levels : goal.decreases-push_levels
-decreases-push_levels l = length l.levels.now

@@ -1,8 +1,0 @@
-use Rattle.last_writer.specs.Converted.{turns_left, IsConverting}
-use Rattle.last_writer.proofs.leaves.converted_within.Given as goal
-
-abbrev pub invariant-turns : goal.invariant-turns
-invariant-turns l = IsConverting l.w l.rows l.fn.tree l.opens l.part
-
-abbrev pub decreases-turns : goal.decreases-turns
-decreases-turns l = turns_left l.opens l.part

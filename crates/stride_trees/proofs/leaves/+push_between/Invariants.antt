@@ -1,5 +1,0 @@
-use Rattle.std.proofs.Common.{length}
-use Rattle.stride_trees.proofs.leaves.+push_between.Given as goal
-
-abbrev pub decreases-push_between : goal.decreases-push_between
-decreases-push_between l = length l.told.now

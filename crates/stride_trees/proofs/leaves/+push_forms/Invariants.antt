@@ -1,5 +1,0 @@
-use Rattle.std.proofs.Common.{length}
-use Rattle.stride_trees.proofs.leaves.+push_forms.Given as goal
-
-abbrev pub decreases-push_forms : goal.decreases-push_forms
-decreases-push_forms l = length l.forms.now

@@ -4,15 +4,18 @@
 -- count of at least 2 and a body with a part keeps blocks proper. A repeat of nothing would not: it stands for
 -- nothing, and is left out.
 use Rattle.std.proofs.Common.{◌≡◌, ◌<◌, ◌≤◌, ℕ, List, [], ◌∷◌, ◌++◌, Result, Ok, Err, length, append-nil, refl}
-use Rattle.std.proofs.Common.{sym, ap, ◌∙◌, arith}
+use Rattle.std.proofs.Common.{true, sym, ap, ◌∙◌, arith}
 use Rattle.std.specs.Prelude.{IsTrue, OnErr, OnOk}
+use Rattle.std.proofs.lemmas.Bool.{and_from}
 use Rattle.std.proofs.lemmas.Grind.{flat_map-append}
+use Rattle.std.proofs.lemmas.List.Folds.{list_all-append}
 use Rattle.script_blocks.specs.declared.blocks.Blocks.{Blocks}
 use Rattle.script_blocks.specs.declared.blocks.BlockPart.{BlockPart}
+use Rattle.script_blocks.specs.declared.blocks.BlockPart.TheVariants.{Item}
 use Rattle.script_blocks.specs.declared.blocks.BlockPart.TheViews.{Repeat}
 use Rattle.script_blocks.specs.Expansion.{expansion, part_expansion, parts_expansion, repeated}
-use Rattle.script_blocks.specs.Nesting.{are_proper}
-use Rattle.script_blocks.proofs.Expansions.{expansion_repeat}
+use Rattle.script_blocks.specs.Nesting.{are_proper, is_proper_part}
+use Rattle.script_blocks.proofs.Expansions.{expansion_item, expansion_repeat, proper_item}
 use Rattle.script_blocks.proofs.Nestings.{proper_with_repeat}
 use Rattle.script_blocks.proofs.Repetitions.{repeated_nothing}
 
@@ -36,6 +39,21 @@ module _ {T : Type 0} where
       both_expansion parts (Repeat times body ∷ []) all e
       ∙ ap (λ (xs : List T). parts_expansion parts ++ xs)
       (append-nil (part_expansion (Repeat times body)) ∙ expansion_repeat times body)
+
+  pub item_expansion : (parts all : List (BlockPart T)) (items : List T) (x : T) → all ≡ parts ++ Item x ∷ []
+      → parts_expansion parts ≡ items → parts_expansion all ≡ items ++ x ∷ []
+  item_expansion parts all items x e is =
+      both_expansion parts (Item x ∷ []) all e
+      ∙ ap (λ (xs : List T). parts_expansion parts ++ xs) (append-nil (part_expansion (Item x)) ∙ expansion_item x)
+      ∙ ap (λ (xs : List T). xs ++ x ∷ []) is
+
+  pub item_proper : (parts all : List (BlockPart T)) (x : T) → all ≡ parts ++ Item x ∷ [] → are_proper parts ≡ true
+      → are_proper all ≡ true
+  item_proper parts all x e proper =
+      ap (λ (ps : List (BlockPart T)). are_proper ps) e
+      ∙ list_all-append is_proper_part parts (Item x ∷ [])
+      ∙ and_from (are_proper parts) (are_proper (Item x ∷ [])) proper
+      (and_from (is_proper_part (Item x)) true (proper_item x) refl)
 
   some_parts : (parts : List (BlockPart T)) → (parts ≡ [] → ⊥) → 0 < length parts
   some_parts [] some = absurd (some refl)

@@ -1,7 +1,6 @@
 //! Lists that grow by items and by repeats.
 
 ghost use Rattle.std.specs.Prelude.{◌≡◌, ◌≤◌, [], ◌∷◌, ◌++◌, true, IfOk, IsTrue, OnOk};
-ghost use Rattle.std.specs.Option.{option_to_list};
 ghost use Rattle.script_blocks.specs.Expansion.{expansion, repeated};
 ghost use Rattle.script_blocks.specs.Nesting.{is_proper};
 
@@ -12,6 +11,7 @@ use plain_data::Items;
 use script_blocks::{BlockPart, Blocks, ScriptBuilder};
 use std::alloc::{AllocError, Global};
 use std::marker::Model;
+use std::mem;
 
 /// The least number of items at which it is looked whether a run folds.
 const LONG: usize = 262_144;
@@ -19,59 +19,54 @@ const LONG: usize = 262_144;
 /// A run folds badly where its blocks have more than one node for so many items.
 const ITEMS_OF_A_NODE: u64 = 4;
 
-/// Items one after the other, which contracts see as their list. They are kept by kinds, but for the last, so that an item that
-/// stands alone takes no search.
+/// So many items are too few to be searched for repeats.
+const FEW: usize = 3;
+
+/// Items one after the other, which contracts see as their list. They are kept by kinds once they are more
+/// than a few, so that few items take no search.
 #[derive(Drop)]
 struct Run<T> {
     items: ScriptBuilder<T>,
-    last: Option<T>,
+    few: Items<T>,
 }
 
 impl<T> Model for Run<T> {
     ghost use Rattle.std.specs.Prelude.{◌++◌, List};
     ghost use Rattle.std.specs.Coded.{coded_list};
-    ghost use Rattle.std.specs.Option.{option_to_list};
 
     ghost Value = { List T };
 
     ghost coded = { coded_list T.code };
 
-    ghost view = { λ run. run.items ++ option_to_list run.last };
+    ghost view = { λ run. run.items ++ run.few };
 }
 
-/// The blocks of one item, which take no more memory than it needs.
-fn alone<T: Drop>(alloc: Global, item: T) -> Result<Blocks<T>, AllocError>
-    ensures expansion { IfOk result (λ blocks. expansion blocks ≡ item ∷ []) }
+/// The blocks of these items as they stand, which take no more memory than they need.
+fn unfolded_blocks<T: Drop>(alloc: Global, items: Items<T>) -> Result<Blocks<T>, AllocError>
+    ensures expansion { IfOk result (λ blocks. expansion blocks ≡ items) }
     ensures proper { IfOk result (λ blocks. IsTrue (is_proper blocks)) }
 {
-    let mut parts = Vec::with_capacity(alloc, 1)?;
-    parts.push(BlockPart::Item(item))?;
+    let mut parts = Vec::with_capacity(alloc, items.len())?;
+    for item in items.into_vec() {
+        parts.push(BlockPart::Item(item))?;
+    }
     Ok(Blocks {
         parts: Items::from_vec(parts),
     })
 }
 
-/// The blocks of these items and of the last one, with the stretches folded that repeat.
-fn blocks_of<T: Copy + Eq + Keyed>(
-    alloc: Global,
+/// Adds items at the end, or answers want of memory.
+fn push_all<T: Copy + Eq + Keyed>(
     items: &mut ScriptBuilder<T>,
-    last: Option<T>,
-) -> Result<Blocks<T>, AllocError>
+    more: &[T],
+) -> Result<(), AllocError>
     requires same { (a b : T) → T.eq a b ≡ true → a ≡ b }
-    ensures expansion { IfOk result (λ blocks. expansion blocks
-        ≡ items.old ++ option_to_list last) }
-    ensures proper { IfOk result (λ blocks. IsTrue (is_proper blocks)) }
+    ensures { OnOk result (items.new ≡ items.old ++ more.now) }
 {
-    let Some(last) = last else {
-        let blocks = items.blocks(alloc)?;
-        return compact_blocks(alloc, blocks);
-    };
-    if items.is_empty() {
-        return alone(alloc, last);
+    for item in more {
+        items.push_with_key(item.key(), item)?;
     }
-    items.push_with_key(last.key(), &last)?;
-    let blocks = items.blocks(alloc)?;
-    compact_blocks(alloc, blocks)
+    Ok(())
 }
 
 /// Whether it is to be looked whether so many items fold: at a number, and then each time that there are twice as many.
@@ -90,7 +85,7 @@ impl<T> Run<T> {
     {
         Run {
             items: ScriptBuilder::new(alloc),
-            last: None,
+            few: Items::new(alloc),
         }
     }
 }
@@ -100,31 +95,32 @@ impl<T: Copy + Eq + Keyed> Run<T> {
         requires same { (a b : T) → T.eq a b ≡ true → a ≡ b }
         ensures { OnOk result (self.new ≡ self.old ++ item ∷ []) }
     {
-        match self.last {
-            Some(last) => {
-                self.items.push_with_key(last.key(), &last)?;
-                self.last = Some(item);
-                Ok(())
-            }
-            None => {
-                self.last = Some(item);
-                Ok(())
-            }
+        if self.items.is_empty() && self.few.len() < FEW {
+            return self.few.push(item);
         }
+        push_all(&mut self.items, self.few.as_slice())?;
+        self.few.truncate(0);
+        self.items.push_with_key(item.key(), &item)
     }
 
-    /// Moves all items to the end of a list, or answers want of memory.
+    /// Moves all items to the end of a list, with the stretches folded that repeat, or answers want of memory.
     fn move_to(&mut self, alloc: Global, list: &mut FoldedList<T>) -> Result<(), AllocError>
         requires same { (a b : T) → T.eq a b ≡ true → a ≡ b }
         ensures list { OnOk result (list.new ≡ list.old ++ self.old) }
         ensures rest { OnOk result (self.new ≡ []) }
     {
-        let blocks = blocks_of(alloc, &mut self.items, self.last)?;
-        *self = Run::new(alloc);
+        let Run { mut items, few } = mem::replace(self, Run::new(alloc));
+        if items.is_empty() {
+            let blocks = unfolded_blocks(alloc, few)?;
+            return list.append(alloc, blocks);
+        }
+        push_all(&mut items, few.as_slice())?;
+        let blocks = items.blocks(alloc)?;
+        let blocks = compact_blocks(alloc, blocks)?;
         list.append(alloc, blocks)
     }
 
-    /// Moves all items but the last one to the end of a list where they are many that fold badly, or answers want of memory.
+    /// Moves the items that are kept by kinds to the end of a list where they are many that fold badly, or answers want of memory.
     fn settle(&mut self, alloc: Global, list: &mut FoldedList<T>) -> Result<(), AllocError>
         ensures { OnOk result (list.new ++ self.new ≡ list.old ++ self.old) }
     {

@@ -14,9 +14,10 @@ use Rattle.std.proofs.lemmas.Grind.{flat_map-append}
 use Rattle.sanlp.specs.declared.nest.Nest.{Nest}
 use Rattle.script_blocks.specs.declared.blocks.Blocks.{Blocks}
 use Rattle.script_blocks.specs.declared.blocks.BlockPart.{BlockPart}
+use Rattle.script_blocks.specs.declared.blocks.BlockPart.TheVariants.{Item}
 use Rattle.script_blocks.specs.declared.blocks.BlockPart.TheViews.{Repeat}
 use Rattle.script_blocks.specs.Expansion.{part_expansion, parts_expansion, repeated}
-use Rattle.script_blocks.proofs.Expansions.{expansion_repeat}
+use Rattle.script_blocks.proofs.Expansions.{expansion_item, expansion_repeat}
 use Rattle.script_blocks.proofs.Repetitions.{repeated_more}
 use Rattle.net_core.specs.declared.network.Event.{Event}
 use Rattle.net_core.specs.declared.network.Event.TheVariants.{Fire}
@@ -33,6 +34,13 @@ use Rattle.net_checker.specs.Entries.{entry_refusal, entries_refusal, event_refu
 use Rattle.net_checker.specs.Schedules.{LeadsTo}
 use Rattle.net_checker.specs.TagStates.{IsTagState, cut_in, state_of}
 use Rattle.net_checker.proofs.Walk.{IsWalked, entry_event, walked_on}
+
+-- what one item alone stands for
+pub only_item : (parts rest : List (BlockPart ℕ)) (part : BlockPart ℕ) (p : ℕ) → parts ≡ part ∷ rest → rest ≡ []
+    → part ≡ Item p → parts_expansion parts ≡ p ∷ []
+only_item parts rest part p is none item =
+    ap parts_expansion (is ∙ ap (λ (ps : List (BlockPart ℕ)). part ∷ ps) none)
+    ∙ append-nil (part_expansion part) ∙ ap part_expansion item ∙ expansion_item p
 
 none_first : {A : Type 0} (a b : Option A) → option_or a b ≡ None → a ≡ None
 none_first None b h = refl

@@ -7,6 +7,7 @@ pub mod FitsClasses
 pub mod Ready
 pub mod Turns
 pub mod TagRows
+pub mod KnownRows
 pub mod Usable
 pub mod FitsNames
 pub mod Tables

@@ -39,7 +39,7 @@ use Rattle.tree_eval.specs.declared.leaf.Leaf.{Leaf}
 use Rattle.tree_eval.specs.declared.leaf.Leaf.TheVariants.{Writer, Zero, Dead}
 use Rattle.tree_eval.specs.Stretches.{IsKnownAt, IsStretch, IsStretchOf, LiesIn, found_at, values_at}
 use Rattle.tree_eval.proofs.Rows.{along_at}
-use Rattle.net_checker.specs.Tables.{AreInOrder, GivesTag, GoesOn, IsAhead, IsEvenRow, IsStep, differences}
+use Rattle.net_checker.specs.Tables.{AreInOrder, GivesTag, GoesOn, IsAhead, IsProgression, differences}
 use Rattle.net_checker.proofs.Turns.{vectors_in_order}
 
 -- Lists of numbers that differ in the last one
@@ -278,7 +278,7 @@ by_one (a ∷ front) x t =
 
 -- a row of vectors that follow one another, by its ends
 pub row_by_one : (n : Nest) (points : List (List (List ℤ))) (u first m : ℕ) → points ≡ points_of n
-    → GoesOn (get_or points u []) first m → IsEvenRow (get_or points u []) first 1 m
+    → GoesOn (get_or points u []) first m → IsProgression (get_or points u []) first 1 m
 row_by_one n points u first m whole row =
     let vectors : List (List ℤ) = get_or points u [] in
     let front = row.ahead.front in
@@ -312,26 +312,23 @@ pub step_whole : (from second at after : List ℤ) → length second ≡ length 
     → length after ≡ length from
     → ((k : ℕ) → k < length from → get_or after k (pos 0)
     ≡ get_or at k (pos 0) +ℤ (get_or second k (pos 0) -ℤ get_or from k (pos 0)))
-    → IsStep from second at after
+    → after ≡ values_at (pos 1) at (differences from second)
 step_whole from second at after e f g each =
     let steps = differences from second in
     let long : length steps ≡ length from = values_length (negsuc 0) second from (sym e) ∙ e in
     let long_at : length steps ≡ length at = long ∙ sym f in
-    record {
-      as_long = e;
-      is = ext_get_or (pos 0) after (values_at (pos 1) at steps)
-          (g ∙ sym f ∙ sym (values_length (pos 1) at steps long_at))
-          (λ k lt.
-          let short : k < length from = omega (arith, lt, g) in
-          let short_at : k < length at = omega (arith, short, f) in
-          let short_second : k < length second = omega (arith, short, e) in
-          let step = values_get (negsuc 0) second from k (sym e) short_second in
-          let value = values_get (pos 1) at steps k long_at short_at in
-          let whole = each k short in
-          let same : get_or after k (pos 0) ≡ get_or (values_at (pos 1) at steps) k (pos 0) =
-          omega (arith, ints, step, value, whole) in
-          same);
-    }
+    ext_get_or (pos 0) after (values_at (pos 1) at steps)
+    (g ∙ sym f ∙ sym (values_length (pos 1) at steps long_at))
+    (λ k lt.
+    let short : k < length from = omega (arith, lt, g) in
+    let short_at : k < length at = omega (arith, short, f) in
+    let short_second : k < length second = omega (arith, short, e) in
+    let step = values_get (negsuc 0) second from k (sym e) short_second in
+    let value = values_get (pos 1) at steps k long_at short_at in
+    let whole = each k short in
+    let same : get_or after k (pos 0) ≡ get_or (values_at (pos 1) at steps) k (pos 0) =
+    omega (arith, ints, step, value, whole) in
+    same)
 
 -- a row of steps: its first vector, and one more
 pub stepped_first : (from second : List ℤ) → length second ≡ length from
@@ -375,7 +372,7 @@ stepped_none vectors first step from second e is (suc i) le = absurd (omega (ari
 
 pub stepped_more : (vectors : List (List ℤ)) (first step n place next : ℕ) (from second at after : List ℤ)
     → place ≡ first + n * step → next ≡ first + (n + 1) * step → slice_get vectors place ≡ Some at
-    → slice_get vectors next ≡ Some after → IsStep from second at after → IsSteppedTo vectors first step from second n
+    → slice_get vectors next ≡ Some after → after ≡ values_at (pos 1) at (differences from second) → IsSteppedTo vectors first step from second n
     → IsSteppedTo vectors first step from second (n + 1)
 stepped_more vectors first step n place next from second at after is_place is_next is_at is_after ahead before i le =
     elim (cases_lt i (n + 1)) [
@@ -386,7 +383,7 @@ stepped_more vectors first step n place next from second at after is_place is_ne
           let value : at ≡ values_at (pos n) from steps =
           same_Some _ _ (sym is_at ∙ ap (slice_get vectors) is_place ∙ before n (omega arith)) in
           ap (λ k. slice_get vectors (first + k * step)) turns ∙ ap (slice_get vectors) (sym is_next) ∙ is_after
-          ∙ ap Some (ahead.is ∙ ap (λ v. values_at (pos 1) v steps) value ∙ values_more n from steps)
+          ∙ ap Some (ahead ∙ ap (λ v. values_at (pos 1) v steps) value ∙ values_more n from steps)
           ∙ ap (λ k. Some (values_at (pos k) from steps)) (sym turns)
     ]
 
@@ -443,7 +440,7 @@ pub row_tag : (n : Nest) (points : List (List (List ℤ))) (tree : Tree) (follow
     (s w turn next step m : ℕ) (at to from goal : List ℤ) → points ≡ points_of n → IsStretchOf tree follower → 0 < m
     → slice_get (get_or points s []) turn ≡ Some at → slice_get (get_or points s []) (turn + m) ≡ Some to
     → slice_get (get_or points w []) next ≡ Some from → slice_get (get_or points w []) (next + m * step) ≡ Some goal
-    → IsAhead m at to → IsEvenRow (get_or points w []) next step m → IsTold tree follower at w from
+    → IsAhead m at to → IsProgression (get_or points w []) next step m → IsTold tree follower at w from
     → IsTold tree follower to w goal → (i : ℕ) (here : List ℤ) → i ≤ m
     → slice_get (get_or points s []) (turn + i) ≡ Some here
     → GivesTag points tree here (record { process = w; turn = next + i * step })

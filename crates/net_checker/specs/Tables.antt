@@ -10,6 +10,8 @@ use Rattle.source_tree.specs.declared.tree.Found.TheVariants as found
 use Rattle.source_tree.specs.declared.tree.Tree.{Tree as SourceTree}
 use Rattle.source_tree.specs.Walk.{outcome_of}
 use Rattle.tree_eval.specs.Stretches.{values_at}
+use Rattle.net_checker.specs.declared.known_rows.KnownRows.{KnownRows}
+use Rattle.net_checker.specs.declared.known_rows.Row.{Row}
 use Rattle.net_checker.specs.declared.sources.ToldTags.{ToldTags}
 
 abbrev pub is_tree : Origin → Bool
@@ -46,21 +48,27 @@ pub record GoesOn (vectors : List (List ℤ)) (turn by : ℕ) : Type 0 where
   pub there_later : slice_get vectors (turn + by) ≡ Some later
   pub ahead : IsAhead by at later
 
--- how far the numbers of a vector are from those of another
+-- each number of the second vector less that of the first
 abbrev pub differences : List ℤ → List ℤ → List ℤ
 differences from to = values_at (negsuc 0) to from
 
--- the last vector is as far from the third as the second from the first
-pub record IsStep (from second at after : List ℤ) : Type 0 where
-  pub as_long : length second ≡ length from
-  pub is : after ≡ values_at (pos 1) at (differences from second)
-
--- the vectors at so many places, each by a step from the last, go on by the same numbers
-pub record IsEvenRow (vectors : List (List ℤ)) (first step turns : ℕ) : Type 0 where
+-- the vectors at this place and at so many behind it, each by a step from the last, are an arithmetic
+-- progression, number by number
+pub record IsProgression (vectors : List (List ℤ)) (first step turns : ℕ) : Type 0 where
   pub from : List ℤ
   pub steps : List ℤ
   pub are : (i : ℕ) → i ≤ turns
       → slice_get vectors (first + i * step) ≡ Some (values_at (pos i) from steps)
+
+-- the vectors at the row's places are an arithmetic progression
+abbrev pub IsRow : List (List (List ℤ)) → Row → Type 0
+IsRow points row =
+    IsProgression (slice_index_or points row.statement []) row.first row.step row.turns
+
+-- so is each row that is known
+abbrev pub AreProgressions : List (List (List ℤ)) → KnownRows → Type 0
+AreProgressions points known =
+    (k : ℕ) (row : Row) → slice_get known.rows k ≡ Some (Some row) → IsRow points row
 
 -- iteration vectors in lexicographic order, each once
 abbrev pub AreInOrder : List (List ℤ) → Type 0

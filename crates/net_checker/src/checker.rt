@@ -8,10 +8,10 @@ ghost use Rattle.net_core.specs.Sound.{IsSound};
 ghost use Rattle.net_checker.specs.Fits.{Fits, first, first_with, verdict_of, with_entries};
 ghost use Rattle.net_checker.specs.Schedules.{entries_in};
 
-use crate::candidate::{Candidate, Fitting};
 use crate::classes::class_refusal;
 use crate::entries::schedule_refusal;
 use crate::firings::firing_refusal;
+use crate::nest_network::{NestNetwork, ShapedNetwork};
 use crate::schedule::Schedule;
 use crate::shapes::shape_refusal;
 use crate::sources::{source_refusal, table};
@@ -26,7 +26,7 @@ use std::alloc::{AllocError, Global};
 // What is wrong first with these entries as the schedule, if anything is. The last writers of all reads may be known.
 fn first_refusal(
     alloc: Global,
-    candidate: &Candidate,
+    candidate: &NestNetwork,
     cert: &Cert,
     schedule: &Schedule,
     sources: Option<SourceTable>,
@@ -48,7 +48,7 @@ fn first_refusal(
     if let Some(refusal) = source_refusal(alloc, candidate, cert, &mut rows)? {
         return Ok(Some(refusal));
     }
-    let fitting = Fitting {
+    let fitting = ShapedNetwork {
         nest,
         points: candidate.points,
         network,
@@ -64,7 +64,7 @@ fn first_refusal(
 // The verdict on the certificate with these entries as its schedule. The last writers of all reads may be known.
 fn judge(
     alloc: Global,
-    candidate: &Candidate,
+    candidate: &NestNetwork,
     cert: &Cert,
     schedule: &Schedule,
     sources: Option<SourceTable>,
@@ -106,7 +106,7 @@ pub fn check(
     ensures sound { IfOk result
         (λ verdict. verdict ≡ Verdict.Accepted → IsSound nest.now network.now) }
 {
-    let candidate = Candidate {
+    let candidate = NestNetwork {
         nest,
         points,
         network,
@@ -135,7 +135,7 @@ pub fn check_folded(
     ensures sound { IfOk result
         (λ verdict. verdict ≡ Verdict.Accepted → IsSound nest.now network.now) }
 {
-    let candidate = Candidate {
+    let candidate = NestNetwork {
         nest,
         points,
         network,
@@ -165,7 +165,7 @@ pub fn check_with_sources(
     ensures sound { IfOk result
         (λ verdict. verdict ≡ Verdict.Accepted → IsSound nest.now network.now) }
 {
-    let candidate = Candidate {
+    let candidate = NestNetwork {
         nest,
         points,
         network,

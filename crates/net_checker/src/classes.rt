@@ -8,7 +8,7 @@ ghost use Rattle.net_checker.specs.Collected.{IsCollected, IsCollectedBefore};
 ghost use Rattle.net_checker.specs.SlotRows.{slots_in};
 ghost use Rattle.script_blocks.specs.Expansion.{part_expansion, parts_expansion, repeated};
 
-use crate::candidate::Fitting;
+use crate::nest_network::ShapedNetwork;
 use crate::parts::{process_of, script_of};
 use crate::slots::Slots;
 use crate::tag_state::empty_slots;
@@ -60,7 +60,7 @@ fn add_fire(
 
 // Goes past an event of a process's script: a Get is counted and fills its slot, and a Fire adds what it uses.
 fn add_event(
-    fitting: &Fitting,
+    fitting: &ShapedNetwork,
     process: u32,
     event: &Event,
     slots: &mut Slots<(u32, u32)>,
@@ -93,7 +93,7 @@ fn add_event(
 // The same of all events for which these parts stand.
 #[cycle(adding)]
 fn add_parts(
-    fitting: &Fitting,
+    fitting: &ShapedNetwork,
     process: u32,
     parts: &[BlockPart<Event>],
     slots: &mut Slots<(u32, u32)>,
@@ -117,7 +117,7 @@ fn add_parts(
 
 #[cycle(adding)]
 fn add_part(
-    fitting: &Fitting,
+    fitting: &ShapedNetwork,
     process: u32,
     part: &BlockPart<Event>,
     slots: &mut Slots<(u32, u32)>,
@@ -145,7 +145,7 @@ fn add_part(
 // The same of so many copies of these parts.
 #[cycle(adding)]
 fn add_copies(
-    fitting: &Fitting,
+    fitting: &ShapedNetwork,
     process: u32,
     count: u32,
     parts: &[BlockPart<Event>],
@@ -170,7 +170,7 @@ fn add_copies(
 
 // Counts the Gets of a process's script, and adds its uses. No slot was filled, and none of its channels got from before.
 fn add_events(
-    fitting: &Fitting,
+    fitting: &ShapedNetwork,
     process: u32,
     slots: &mut Slots<(u32, u32)>,
     gets: &mut [u32],
@@ -203,7 +203,7 @@ fn add_events(
 // The same, with slots of its own.
 fn add_script(
     alloc: Global,
-    fitting: &Fitting,
+    fitting: &ShapedNetwork,
     process: u32,
     gets: &mut [u32],
     uses: &mut [Items<u32>],
@@ -239,7 +239,7 @@ fn empty_lists(alloc: Global, count: usize) -> Result<Vec<Items<u32>>, AllocErro
 }
 
 // The uses of each channel.
-fn channel_uses(alloc: Global, fitting: &Fitting) -> Result<Vec<Items<u32>>, AllocError>
+fn channel_uses(alloc: Global, fitting: &ShapedNetwork) -> Result<Vec<Items<u32>>, AllocError>
     ensures length { IfOk result
         (λ lists. length lists.items ≡ length fitting.now.network.now.channels) }
     ensures uses { IfOk result
@@ -282,7 +282,10 @@ fn first_other_class(
 }
 
 /// The first channel whose class isn't that of its uses, if there is one.
-pub(crate) fn class_refusal(alloc: Global, fitting: &Fitting) -> Result<Option<Refusal>, AllocError>
+pub(crate) fn class_refusal(
+    alloc: Global,
+    fitting: &ShapedNetwork,
+) -> Result<Option<Refusal>, AllocError>
     ensures { IfOk result (λ refusal. refusal ≡ class_refusal fitting.now.network.now) }
 {
     let uses = channel_uses(alloc, fitting)?;

@@ -1,4 +1,4 @@
-ghost use Rattle.std.specs.Prelude.{◌≡◌, ◌↔◌, ◌<◌, ◌+◌, ◌^◌, ℕ, ℤ, List, [], ◌∷◌, None, length, slice_get, IfOk, IsFalse, IsTrue, OnOk};
+ghost use Rattle.std.specs.Prelude.{◌≡◌, ◌↔◌, ◌<◌, ◌+◌, ◌^◌, ℕ, ℤ, List, [], ◌∷◌, None, length, slice_get, IfOk, IfSome, IsFalse, IsTrue, OnOk};
 ghost use Rattle.source_tree.specs.Sources.{sources_of};
 ghost use Rattle.net_core.specs.Cuts.{positions};
 ghost use Rattle.net_core.specs.Machine.{net_of};
@@ -12,7 +12,7 @@ ghost use Rattle.net_checker.specs.SlotRows.{slots_in};
 ghost use Rattle.net_checker.specs.TagStates.{IsTagState, cut_in, state_of};
 ghost use Rattle.script_blocks.specs.Expansion.{part_expansion, parts_expansion, repeated};
 
-use crate::candidate::Fitting;
+use crate::nest_network::ShapedNetwork;
 use crate::schedule::Schedule;
 use crate::slots::Slots;
 use crate::tag_state::TagState;
@@ -154,7 +154,7 @@ fn judge_fire(
 
 // Why an entry of the schedule is refused in this state, if it is.
 fn judge(
-    fitting: &Fitting,
+    fitting: &ShapedNetwork,
     table: &SourceTable,
     state: &TagState,
     entry: u32,
@@ -213,7 +213,7 @@ fn names_are_wanted(
 // Makes one entry of the schedule, if it is fine. It answers whether it is. A refusal is a large value, so it is made only
 // where one is.
 fn step_if_fine(
-    fitting: &Fitting,
+    fitting: &ShapedNetwork,
     table: &SourceTable,
     state: &mut TagState,
     process: u32,
@@ -281,7 +281,7 @@ fn unended(network: &Network, state: &TagState) -> Option<Refusal>
 // What is wrong with a schedule that stands in a list, if anything is.
 fn listed_refusal(
     alloc: Global,
-    fitting: &Fitting,
+    fitting: &ShapedNetwork,
     table: &SourceTable,
     schedule: &[u32],
 ) -> Result<Option<Refusal>, AllocError>
@@ -303,7 +303,7 @@ fn listed_refusal(
 // Makes the entries for which these parts stand, up to the first that isn't fine. It answers whether all are.
 #[cycle(stepping)]
 fn step_over_parts(
-    fitting: &Fitting,
+    fitting: &ShapedNetwork,
     table: &SourceTable,
     state: &mut TagState,
     parts: &[BlockPart<u32>],
@@ -326,7 +326,7 @@ fn step_over_parts(
 // The same of one part.
 #[cycle(stepping)]
 fn step_over_part(
-    fitting: &Fitting,
+    fitting: &ShapedNetwork,
     table: &SourceTable,
     state: &mut TagState,
     part: &BlockPart<u32>,
@@ -346,10 +346,49 @@ fn step_over_part(
     }
 }
 
+// The entry for which these parts stand, if they are one item.
+fn only_item(parts: &[BlockPart<u32>]) -> Option<u32>
+    ensures { IfSome result (λ process. parts_expansion parts.now ≡ process ∷ []) }
+{
+    let Some((part, rest)) = parts.split_first() else {
+        return None;
+    };
+    if !rest.is_empty() {
+        return None;
+    }
+    match part {
+        BlockPart::Item(process) => Some(*process),
+        BlockPart::Repeat(..) => None,
+    }
+}
+
+// So many entries of one process.
+fn step_over_run(
+    fitting: &ShapedNetwork,
+    table: &SourceTable,
+    state: &mut TagState,
+    count: u32,
+    process: u32,
+) -> Result<bool, AllocError>
+    requires table { table.now.of ≡ sources_of fitting.now.nest.now }
+    requires state { IsTagState (net_of fitting.now.network.now) state.old }
+    ensures state { OnOk result (IsTagState (net_of fitting.now.network.now) state.new) }
+    ensures fine { IfOk result (λ fine. IsTrue fine
+        → LeadsTo fitting.now.nest.now (net_of fitting.now.network.now)
+        (repeated count (process ∷ [])) state.old state.new) }
+{
+    for _ in 0..count {
+        if !step_if_fine(fitting, table, state, process)? {
+            return Ok(false);
+        }
+    }
+    Ok(true)
+}
+
 // The same of so many copies of these parts.
 #[cycle(stepping)]
 fn step_over_copies(
-    fitting: &Fitting,
+    fitting: &ShapedNetwork,
     table: &SourceTable,
     state: &mut TagState,
     count: u32,
@@ -362,6 +401,9 @@ fn step_over_copies(
         → LeadsTo fitting.now.nest.now (net_of fitting.now.network.now)
         (repeated count (parts_expansion parts.now)) state.old state.new) }
 {
+    if let Some(process) = only_item(parts) {
+        return step_over_run(fitting, table, state, count, process);
+    }
     for _ in 0..count {
         if !step_over_parts(fitting, table, state, parts)? {
             return Ok(false);
@@ -373,7 +415,7 @@ fn step_over_copies(
 // What is wrong with a schedule that is kept folded, if anything is, found entry by entry.
 fn first_bad_entry(
     alloc: Global,
-    fitting: &Fitting,
+    fitting: &ShapedNetwork,
     table: &SourceTable,
     schedule: &Script<u32>,
 ) -> Result<Option<Refusal>, AllocError>
@@ -396,7 +438,7 @@ fn first_bad_entry(
 // The same. Where the schedule's blocks tell that all entries are fine, none is sought.
 fn folded_refusal(
     alloc: Global,
-    fitting: &Fitting,
+    fitting: &ShapedNetwork,
     table: &SourceTable,
     schedule: &Script<u32>,
 ) -> Result<Option<Refusal>, AllocError>
@@ -417,7 +459,7 @@ fn folded_refusal(
 // The first entry of the schedule that is refused, and else the least process that it leaves unended, if there is one.
 pub(crate) fn schedule_refusal(
     alloc: Global,
-    fitting: &Fitting,
+    fitting: &ShapedNetwork,
     table: &SourceTable,
     schedule: &Schedule,
 ) -> Result<Option<Refusal>, AllocError>

@@ -3,14 +3,14 @@ ghost use Rattle.net_core.specs.Machine.{net_of};
 ghost use Rattle.net_core.specs.Shape.{is_fire};
 ghost use Rattle.net_checker.specs.Firings.{firing_refusal, may_stand, process_firing};
 
-use crate::candidate::Candidate;
 use crate::fitting_fires::{fires_fit, fits_reads};
+use crate::nest_network::NestNetwork;
 use crate::parts::{script_of, turns_of};
 use crate::verdict::Refusal;
 use net_core::Event;
 
 // Whether an event may stand in a process's script after so many fires.
-fn may_stand(candidate: &Candidate, process: u32, before: usize, event: &Event) -> bool
+fn may_stand(candidate: &NestNetwork, process: u32, before: usize, event: &Event) -> bool
     ensures { result
         ≡ may_stand candidate.now.nest.now (net_of candidate.now.network.now) process before
         event.now }
@@ -32,7 +32,7 @@ fn is_fire(event: &Event) -> bool
 }
 
 // Where the fires of a process go wrong, if they do, found event by event.
-fn first_misfire(candidate: &Candidate, process: u32) -> Option<Refusal>
+fn first_misfire(candidate: &NestNetwork, process: u32) -> Option<Refusal>
     requires process { process < length candidate.now.network.now.processes }
     requires short { length ((net_of candidate.now.network.now).script process) < 2 ^ 32 }
     ensures { result
@@ -56,7 +56,7 @@ fn first_misfire(candidate: &Candidate, process: u32) -> Option<Refusal>
 }
 
 // Where the fires of a process go wrong, if they do. Where its blocks tell that they don't, no place is sought.
-fn process_firing(candidate: &Candidate, process: u32) -> Option<Refusal>
+fn process_firing(candidate: &NestNetwork, process: u32) -> Option<Refusal>
     requires process { process < length candidate.now.network.now.processes }
     requires short { length ((net_of candidate.now.network.now).script process) < 2 ^ 32 }
     ensures { result
@@ -69,7 +69,7 @@ fn process_firing(candidate: &Candidate, process: u32) -> Option<Refusal>
 }
 
 /// The least process whose fires go wrong, and where, if there is one.
-pub(crate) fn firing_refusal(candidate: &Candidate) -> Option<Refusal>
+pub(crate) fn firing_refusal(candidate: &NestNetwork) -> Option<Refusal>
     ensures { result ≡ firing_refusal candidate.now.nest.now candidate.now.network.now }
 {
     for process in 0..candidate.network.processes.len() as u32 {

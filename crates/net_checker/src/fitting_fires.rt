@@ -6,7 +6,7 @@ ghost use Rattle.net_checker.specs.Firings.{is_within};
 ghost use Rattle.net_checker.specs.FittingFires.{fires_fit, fits_reads, puts_first};
 ghost use Rattle.script_blocks.specs.Expansion.{part_expansion, parts_expansion};
 
-use crate::candidate::Candidate;
+use crate::nest_network::NestNetwork;
 use crate::parts::{reads_of, script_of, slots_of, turns_of};
 use net_core::{Event, Network, Ref, Refs, fire_count};
 use sanlp::Nest;
@@ -92,7 +92,7 @@ fn puts_first(script: &Script<Event>) -> bool
 }
 
 /// Whether all Fires of a process fit its reads, there is one for each of its points, and no Put stands before the first.
-pub(crate) fn fires_fit(candidate: &Candidate, process: u32) -> bool
+pub(crate) fn fires_fit(candidate: &NestNetwork, process: u32) -> bool
     requires { process < length candidate.now.network.now.processes }
     ensures { result
         ≡ fires_fit candidate.now.nest.now (net_of candidate.now.network.now) process }

@@ -4,13 +4,14 @@
 //! and none of them is refused. Its queues and slots take memory for what is in them.
 #![tactic(auto)]
 
-mod candidate;
 mod checker;
 mod classes;
 mod entries;
 mod firings;
 mod fitting_fires;
+mod known_rows;
 mod laws;
+mod nest_network;
 mod parts;
 mod schedule;
 mod shapes;

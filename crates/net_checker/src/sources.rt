@@ -1,4 +1,4 @@
-ghost use Rattle.std.specs.Prelude.{◌≡◌, ◌+◌, ◌+ℤ◌, ◌-ℤ◌, ◌<◌, ◌≤◌, ◌*◌, ◌++◌, ℕ, ℤ, List, [], ◌∷◌, Option, None, Some, length, map, slice_get, slice_index_or, true, IsTrue, IfOk, IfSome};
+ghost use Rattle.std.specs.Prelude.{◌≡◌, ◌+◌, ◌+ℤ◌, ◌-ℤ◌, ◌<◌, ◌≤◌, ◌*◌, ◌++◌, pos, ℕ, ℤ, List, [], ◌∷◌, Option, None, Some, length, map, slice_get, slice_index_or, true, IsTrue, IfOk, IfSome};
 ghost use Rattle.std.specs.List.{list_all, range_with_len};
 ghost use Rattle.std.specs.Option.{option_and_then, option_copied};
 ghost use Rattle.sanlp.specs.Access.{read_count};
@@ -12,11 +12,12 @@ ghost use Rattle.source_tree.specs.Sources.{read_number, read_sources, sources_o
 ghost use Rattle.source_tree.specs.Systems.{read_at};
 ghost use Rattle.net_checker.specs.Shapes.{read_total};
 ghost use Rattle.net_checker.specs.Sources.{first_overflow, origin_refusal, reads_refusal, source_refusal, tree_refusal};
-ghost use Rattle.net_checker.specs.Tables.{is_tree, AreInOrder, AreTold, GivesTag, GoesOn, IsAhead, IsEvenRow, IsStep};
+ghost use Rattle.net_checker.specs.Tables.{differences, is_tree, AreInOrder, AreProgressions, AreTold, GivesTag, GoesOn, IsAhead, IsProgression, IsRow};
 ghost use Rattle.source_tree.specs.declared.tree.Tree.{Tree};
-ghost use Rattle.tree_eval.specs.Stretches.{IsStretchOf};
+ghost use Rattle.tree_eval.specs.Stretches.{values_at, IsStretchOf};
 
-use crate::candidate::Candidate;
+use crate::known_rows::{KnownRows, Row};
+use crate::nest_network::NestNetwork;
 use crate::parts::{reads_of, turns_of};
 use crate::verdict::Refusal;
 use affine_core::Vector;
@@ -139,7 +140,7 @@ impl Paces {
 }
 
 // The tag of the entry whose point was found, or none where zero was.
-fn tag_of(candidate: &Candidate, found: &Found, paces: &mut Paces) -> Option<Tag>
+fn tag_of(candidate: &NestNetwork, found: &Found, paces: &mut Paces) -> Option<Tag>
     requires { (writer : Option ℕ) × IsPointOf (trace candidate.now.nest.now) writer found.now }
     ensures { (writer : Option ℕ) → IsPointOf (trace candidate.now.nest.now) writer found.now
         → result ≡ option_and_then (tag_at (trace candidate.now.nest.now)) writer }
@@ -324,7 +325,8 @@ fn is_as_far(from: i64, second: i64, at: i64, after: i64) -> bool
 
 // Whether two vectors are as far apart as two others, number by number.
 fn is_step(from: &[i64], second: &[i64], at: &[i64], after: &[i64]) -> bool
-    ensures { IsTrue result → IsStep from.now second.now at.now after.now }
+    ensures { IsTrue result
+        → after.now ≡ values_at (pos 1) at.now (differences from.now second.now) }
 {
     if second.len() != from.len() || at.len() != from.len() || after.len() != from.len() {
         return false;
@@ -337,9 +339,9 @@ fn is_step(from: &[i64], second: &[i64], at: &[i64], after: &[i64]) -> bool
     true
 }
 
-// Whether the vectors at so many places behind this one, each by a step from the last, are as far apart from each to the next.
+// Whether the vectors at this place and at so many behind it, each by a step from the last, are an arithmetic progression.
 fn is_stepped_row(vectors: &[Vector], first: usize, step: usize, length: u32) -> bool
-    ensures { IsTrue result → IsEvenRow vectors.now first step length }
+    ensures { IsTrue result → IsProgression vectors.now first step length }
 {
     let Some(second_place) = first.checked_add(step) else {
         return false;
@@ -376,34 +378,47 @@ fn is_stepped_row(vectors: &[Vector], first: usize, step: usize, length: u32) ->
     true
 }
 
-// Whether a statement's vectors go on evenly from this turn on, for so many steps of so many turns. Where the step is 1, the
-// last vector alone tells it: vectors stand in order, so where it is as far ahead as it stands behind the first, so is each
-// between them.
-fn is_even_row(candidate: &Candidate, statement: u32, first: u32, step: u32, length: u32) -> bool
-    ensures { IsTrue result
-        → IsEvenRow (slice_index_or candidate.now.points.now.of statement []) first step length }
+// Whether a row is an arithmetic progression. Where the step is 1, the last vector alone tells it: vectors stand in order, so
+// where it is as far ahead as it stands behind the first, so is each between them. Else each is looked at, once as long as the
+// row is known.
+fn is_even_row(candidate: &NestNetwork, known: &mut KnownRows, row: Row) -> bool
+    requires { AreProgressions candidate.now.points.now.of known.old }
+    ensures row { IsTrue result → IsRow candidate.now.points.now.of row }
+    ensures known { AreProgressions candidate.now.points.now.of known.new }
 {
-    let Some(vectors) = candidate.points.of.get(statement as usize) else {
+    let Some(vectors) = candidate.points.of.get(row.statement as usize) else {
         return false;
     };
+    let vectors = vectors.as_slice();
+    let (first, step) = (row.first as usize, row.step as usize);
     if step == 1 {
-        return goes_on(vectors.as_slice(), first as usize, length);
+        return goes_on(vectors, first, row.turns);
     }
-    is_stepped_row(vectors.as_slice(), first as usize, step as usize, length)
+    if known.has(row) {
+        return true;
+    }
+    if !is_stepped_row(vectors, first, step, row.turns) {
+        return false;
+    }
+    known.add(row);
+    true
 }
 
 // The tags of a row of so many turns, from this turn on, if a tree is known to give them. The reader's row goes on by 1 from
 // turn to turn, and the writer's by the usual step, with the same differences. So the tree is asked at both ends alone.
 fn row_tags(
-    candidate: &Candidate,
+    candidate: &NestNetwork,
+    known: &mut KnownRows,
     follower: &Follower,
     statement: u32,
     turn: usize,
     length: u32,
     pace: &Pace,
 ) -> Option<ToldTags>
-    requires { (tree : Tree) × IsStretchOf tree follower.now }
-    ensures { IfSome result
+    requires rows { AreProgressions candidate.now.points.now.of known.old }
+    requires stretch { (tree : Tree) × IsStretchOf tree follower.now }
+    ensures rows { AreProgressions candidate.now.points.now.of known.new }
+    ensures told { IfSome result
         (λ told. (tree : Tree) → IsStretchOf tree follower.now
         → AreTold candidate.now.points.now.of tree
         (slice_index_or candidate.now.points.now.of statement []) turn told) }
@@ -429,7 +444,13 @@ fn row_tags(
     if !follower.tells(last_at, pace.statement, last_there.as_slice()) {
         return None;
     }
-    if !is_even_row(candidate, pace.statement, next, step, length) {
+    let row = Row {
+        statement: pace.statement,
+        first: next,
+        step,
+        turns: length,
+    };
+    if !is_even_row(candidate, known, row) {
         return None;
     }
     Some(ToldTags {
@@ -443,7 +464,8 @@ fn row_tags(
 // The tags of the row that this turn is in, from this turn on, as far as they are known, where they are sought. The row may
 // be as long as is said.
 fn later_tags(
-    candidate: &Candidate,
+    candidate: &NestNetwork,
+    known: &mut KnownRows,
     follower: &Follower,
     statement: u32,
     turn: usize,
@@ -451,8 +473,10 @@ fn later_tags(
     sought: Option<u32>,
 ) -> ToldTags
     requires statement { statement < length candidate.now.points.now.of }
-    requires known { (tree : Tree) × IsStretchOf tree follower.now }
-    ensures { (tree : Tree) → IsStretchOf tree follower.now
+    requires rows { AreProgressions candidate.now.points.now.of known.old }
+    requires stretch { (tree : Tree) × IsStretchOf tree follower.now }
+    ensures rows { AreProgressions candidate.now.points.now.of known.new }
+    ensures told { (tree : Tree) → IsStretchOf tree follower.now
         → AreTold candidate.now.points.now.of tree
         (slice_index_or candidate.now.points.now.of statement []) turn result }
 {
@@ -460,7 +484,7 @@ fn later_tags(
         return ToldTags::none();
     };
     let length = row_length(vectors_of(candidate.points, statement), turn, guess);
-    match row_tags(candidate, follower, statement, turn, length, pace) {
+    match row_tags(candidate, known, follower, statement, turn, length, pace) {
         Some(told) => told,
         None => ToldTags::none(),
     }
@@ -469,7 +493,7 @@ fn later_tags(
 // Adds the sources of a read by its checked tree, as long as the tree doesn't overflow. Where it does, tells the first
 // such point.
 fn add_sources(
-    candidate: &Candidate,
+    candidate: &NestNetwork,
     statement: u32,
     tree: &Tree,
     sources: &mut Items<Option<Tag>>,
@@ -492,6 +516,7 @@ fn add_sources(
         pace: Pace::before(0),
         other: Pace::before(0),
     };
+    let mut rows = KnownRows::none();
     let mut told = ToldTags::none();
     let mut length: u32 = 0;
     let mut sought: Option<u32> = None;
@@ -505,6 +530,7 @@ fn add_sources(
             sources.push(Some(tag))?;
             told = later_tags(
                 candidate,
+                &mut rows,
                 &follower,
                 statement,
                 turn + 1,
@@ -528,7 +554,7 @@ fn add_sources(
 // Why a tree is refused for this read, if it is. Where it isn't, the sources of the read are added.
 fn tree_refusal(
     alloc: Global,
-    candidate: &Candidate,
+    candidate: &NestNetwork,
     statement: u32,
     read: u32,
     tree: &Tree,
@@ -555,7 +581,7 @@ fn tree_refusal(
 // Why an origin is refused for this read, if it is. Where it isn't, the read's row is added, which is empty at Sweep.
 fn origin_refusal(
     alloc: Global,
-    candidate: &Candidate,
+    candidate: &NestNetwork,
     statement: u32,
     read: u32,
     origin: &Origin,
@@ -596,7 +622,7 @@ fn origin_refusal(
 // has this number.
 fn reads_refusal(
     alloc: Global,
-    candidate: &Candidate,
+    candidate: &NestNetwork,
     cert: &Cert,
     statement: u32,
     first: usize,
@@ -628,7 +654,7 @@ fn reads_refusal(
 /// the last writers of the read, and none where the origin is Sweep.
 pub(crate) fn source_refusal(
     alloc: Global,
-    candidate: &Candidate,
+    candidate: &NestNetwork,
     cert: &Cert,
     rows: &mut Items<Items<Option<Tag>>>,
 ) -> Result<Option<Refusal>, AllocError>

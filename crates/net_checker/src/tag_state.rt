@@ -8,7 +8,7 @@ ghost use Rattle.net_core.specs.Rules.{tags};
 ghost use Rattle.net_checker.specs.SlotRows.{slots_in};
 ghost use Rattle.net_checker.specs.TagStates.{IsTagState, slot_lists, state_of};
 
-use crate::candidate::Fitting;
+use crate::nest_network::ShapedNetwork;
 use crate::parts::{capacity_of, writer_of};
 use crate::slots::Slots;
 use crate::turn_queue::TurnQueue;
@@ -99,7 +99,7 @@ fn fill_slot(
 
 impl TagState {
     /// The opening state, or want of memory.
-    pub(crate) fn new(alloc: Global, fitting: &Fitting) -> Result<TagState, AllocError>
+    pub(crate) fn new(alloc: Global, fitting: &ShapedNetwork) -> Result<TagState, AllocError>
         ensures start { IfOk result (λ state. state_of (net_of fitting.now.network.now) state
             ≡ start (net_of fitting.now.network.now)) }
         ensures state { IfOk result (IsTagState (net_of fitting.now.network.now)) }

@@ -11,8 +11,8 @@ source_refusal-requires-clause-sources c =
 pub table-requires-clause-rows : goal.table-requires-clause-rows
 table-requires-clause-rows c = c.in_ok-refusal.ensures.rows c.in_default-2.is
 
-pub invariant_of-fitting-clause-fits : goal.invariant_of-fitting-clause-fits
-invariant_of-fitting-clause-fits c =
+pub invariant_of-fitting-clause-shape : goal.invariant_of-fitting-clause-shape
+invariant_of-fitting-clause-shape c =
     let candidate = c.args.candidate.now in
     (none_fits candidate.nest.now candidate.network.now c.args.cert.now (sym c.shape_refusal.ensures ∙ c.in_default.is)
     (sym c.firing_refusal.ensures ∙ c.in_default-firing_refusal.is)).0

@@ -20,8 +20,8 @@ overflow_add-gets c =
       arith,
       get_number net p place.first_gets place.first_uses c.args.gets.now c.args.uses.now
           (slots_in c.args.slots.now) k place.collected c.in-Get.channel c.in-Get.slot
-          c.args.fitting.now.fits.shaped.wired place.fresh is,
-      get_short net p k c.in-Get.channel c.in-Get.slot c.args.fitting.now.fits.shaped.wired
+          c.args.fitting.now.shape.shaped.wired place.fresh is,
+      get_short net p k c.in-Get.channel c.in-Get.slot c.args.fitting.now.shape.shaped.wired
           c.args.fitting.now.numbers is,
     )
 
@@ -34,7 +34,7 @@ bounds-gets-channel c =
     ∙ ap Some c.in-Get.is in
     omega (
       arith,
-      c.args.fitting.now.fits.shaped.wired.get_channel p (length place.before) c.in-Get.channel c.in-Get.slot is,
+      c.args.fitting.now.shape.shaped.wired.get_channel p (length place.before) c.in-Get.channel c.in-Get.slot is,
       place.collected.gets_length,
     )
 
@@ -47,7 +47,7 @@ bounds-gets-channel-in-Get c =
     ∙ ap Some c.in-Get.is in
     omega (
       arith,
-      c.args.fitting.now.fits.shaped.wired.get_channel p (length place.before) c.in-Get.channel c.in-Get.slot is,
+      c.args.fitting.now.shape.shaped.wired.get_channel p (length place.before) c.in-Get.channel c.in-Get.slot is,
       place.collected.gets_length,
     )
 
@@ -57,7 +57,7 @@ add_fire-requires c j got h =
     let place = c.requires in
     omega (
       arith,
-      (slots_got net c.args.fitting.now.fits.shaped.wired c.args.process (length place.before) j got
+      (slots_got net c.args.fitting.now.shape.shaped.wired c.args.process (length place.before) j got
           (ap (λ xs. slice_get xs j) (sym place.collected.slots_are) ∙ h)).0,
       place.collected.uses_length,
     )
@@ -74,7 +74,7 @@ returns-in_ok-fill-in-Get c = λ place.
     (rw c.in_ok-fill-in-Get.ensures
     (collected_get net p place.first_gets place.first_uses c.args.gets.now c.args.uses.now
     (slots_in c.args.slots.now) k place.collected c.in-Get.channel c.in-Get.slot _
-    c.args.fitting.now.fits.shaped.wired place.fresh is refl))
+    c.args.fitting.now.shape.shaped.wired place.fresh is refl))
 
 pub returns-in-Fire : goal.returns-in-Fire
 returns-in-Fire c =

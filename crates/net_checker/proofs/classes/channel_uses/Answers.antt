@@ -23,7 +23,7 @@ loop-process-preserved c =
     written_back uses old_uses c.loop-process.uses.len (omega (arith, c.loop-process.uses.ok.0)) many_uses in
     below_as net p _ gets _ uses back_gets back_uses
     (
-    below_more net p old_gets gets old_uses uses c.args.fitting.now.fits.shaped.wired c.loop-process.invariant
+    below_more net p old_gets gets old_uses uses c.args.fitting.now.shape.shaped.wired c.loop-process.invariant
     many_gets many_uses
     (λ d lt. c.in_ok-add_script.ensures.gets d lt
     ∙ ap (λ (xs : List ℕ). get_or xs d 0 + count_by (is_get d) (net.script p)) c.deref_mut.ensures.value)

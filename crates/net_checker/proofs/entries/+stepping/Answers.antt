@@ -1,4 +1,4 @@
-use Rattle.std.proofs.Common.{◌≡◌, ap}
+use Rattle.std.proofs.Common.{◌≡◌, [], ◌∷◌, sym, ap}
 use Rattle.std.proofs.lemmas.Result.{IfOk-weaker}
 use Rattle.net_core.specs.Machine.{net_of}
 use Rattle.script_blocks.specs.Expansion.{parts_expansion, repeated}
@@ -22,6 +22,18 @@ step_over_copies-loop-preserved t c = record {
       c.args.state.now c.loop.state c.step_over_parts.new.state c.loop.invariant.leads
       (c.in_ok-step_over_parts.ensures.fine c.if-not-branch.false);
 }
+
+pub step_over_copies-returns-in-Some-clause-fine : goal.step_over_copies-returns-in-Some-clause-fine
+step_over_copies-returns-in-Some-clause-fine t c =
+    let n = c.args.fitting.now.nest.now in
+    let net = net_of c.args.fitting.now.network.now in
+    let count = c.args.count in
+    let all = parts_expansion c.args.parts.now in
+    let entry = c.in-Some.process ∷ [] in
+    IfOk-weaker c.step_over_run.result _ _
+    (λ fine leads yes.
+    leads_as n net (repeated count entry) (repeated count all) c.args.state.now c.step_over_run.new.state
+    (ap (repeated count) (sym c.in-Some.ensures)) (leads yes)) c.step_over_run.ensures.fine
 
 pub step_over_part-returns-in-Repeat-clause-fine :
     goal.step_over_part-returns-in-Repeat-clause-fine

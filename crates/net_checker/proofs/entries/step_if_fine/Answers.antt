@@ -35,7 +35,7 @@ reads_before-first_read-requires c =
     omega (
       arith,
       enabled_there fitting.nest.now fitting.network.now (state_of (net_of fitting.network.now) c.args.state.now)
-          c.args.process c.in-Some-Fire.refs c.args.fitting.now.fits
+          c.args.process c.in-Some-Fire.refs c.args.fitting.now.shape
           (sym c.in-Some-Fire.ensures ∙ ap Some c.in-Some-Fire.field-0-is),
     )
 
@@ -45,10 +45,10 @@ names_are_wanted-requires c =
     let is = sym c.in-Some-Fire.ensures ∙ ap Some c.in-Some-Fire.field-0-is in
     let few = few_references fitting.nest.now fitting.network.now
     (state_of (net_of fitting.network.now) c.args.state.now) c.args.process c.in-Some-Fire.refs
-    c.args.fitting.now.fits is in
+    c.args.fitting.now.shape is in
     let there = enabled_there fitting.nest.now fitting.network.now
     (state_of (net_of fitting.network.now) c.args.state.now) c.args.process c.in-Some-Fire.refs
-    c.args.fitting.now.fits is in
+    c.args.fitting.now.shape is in
     omega (arith, c.reads_before-first_read.ensures.small, few_statements fitting.nest.now)
 
 pub step_fire-requires-clause-next : goal.step_fire-requires-clause-next
@@ -82,7 +82,7 @@ returns-else-not-names_are_wanted-clause-fine c = λ _.
     let is = sym c.in-Some-Fire.ensures ∙ ap Some c.in-Some-Fire.field-0-is in
     let on = fire_enabled net c.args.state.now c.requires.state c.args.process c.in-Some-Fire.refs is in
     leads_by_step n net c.args.process c.args.state.now c.step_fire.new.self on
-    (λ entry. sym (fire_judged n fitting.network.now c.args.fitting.now.fits s c.requires.state.counted
+    (λ entry. sym (fire_judged n fitting.network.now c.args.fitting.now.shape s c.requires.state.counted
     c.requires.state.named (points_of n) c.args.table.now.of c.args.process entry _ _ _ c.in-Some-Fire.refs refl
     c.requires.table c.slots-slots.ensures c.turn-turn.ensures c.reads_before-first_read.ensures.value on is)
     ∙ (c.names_are_wanted.ensures (points_of n) entry).0 c.if-not-names_are_wanted.false)
@@ -126,7 +126,7 @@ returns-then-not-names_are_wanted-clause-refused c = λ _ entry fine.
     let is = sym c.in-Some-Fire.ensures ∙ ap Some c.in-Some-Fire.field-0-is in
     let on = fire_enabled net c.args.state.now c.requires.state c.args.process c.in-Some-Fire.refs is in
     let wanted = (c.names_are_wanted.ensures (points_of n) entry).1
-    (fire_judged n fitting.network.now c.args.fitting.now.fits s c.requires.state.counted
+    (fire_judged n fitting.network.now c.args.fitting.now.shape s c.requires.state.counted
     c.requires.state.named (points_of n) c.args.table.now.of c.args.process entry _ _ _ c.in-Some-Fire.refs refl
     c.requires.table c.slots-slots.ensures c.turn-turn.ensures c.reads_before-first_read.ensures.value on is ∙ fine) in
     let not = c.if-not-names_are_wanted.true in

@@ -77,7 +77,7 @@ returns-then-fired-turns_of c =
       arith,
       fired,
       c.turns_of.ensures
-          ∙ ap (λ (points : List (List (List ℤ))). turns points p) candidate.all_points,
+          ∙ ap (λ (points : List (List (List ℤ))). turns points p) candidate.points_of_nest,
     ))
 
 pub returns : goal.returns
@@ -95,5 +95,5 @@ returns c =
       arith,
       fired,
       c.turns_of.ensures
-          ∙ ap (λ (points : List (List (List ℤ))). turns points p) candidate.all_points,
+          ∙ ap (λ (points : List (List (List ℤ))). turns points p) candidate.points_of_nest,
     ))

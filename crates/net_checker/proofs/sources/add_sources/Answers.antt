@@ -32,7 +32,7 @@ vectors_of-vectors-requires c =
       c.requires.statement,
       points_length c.args.candidate.now.nest.now,
       ap length
-          c.args.candidate.now.all_points,
+          c.args.candidate.now.points_of_nest,
     )
 
 pub eval-requires-clause-ready : goal.eval-requires-clause-ready
@@ -40,7 +40,7 @@ eval-requires-clause-ready c =
     let n = c.args.candidate.now.nest.now in
     let s = c.args.statement in
     let items = c.vectors_of-vectors.result.now in
-    let all = whole n s c.args.candidate.now.points.now.of items c.args.candidate.now.all_points
+    let all = whole n s c.args.candidate.now.points.now.of items c.args.candidate.now.points_of_nest
     c.vectors_of-vectors.ensures in
     ready_at n s c.requires.checked.0 c.args.tree.now c.requires.checked.1 c.loop-turn.turn
     c.index-vectors-turn.result
@@ -52,7 +52,7 @@ tag_of-requires c =
     let n = c.args.candidate.now.nest.now in
     let s = c.args.statement in
     let items = c.vectors_of-vectors.result.now in
-    let all = whole n s c.args.candidate.now.points.now.of items c.args.candidate.now.all_points
+    let all = whole n s c.args.candidate.now.points.now.of items c.args.candidate.now.points_of_nest
     c.vectors_of-vectors.ensures in
     let g = given_at n s c.requires.checked.0 c.args.tree.now c.requires.checked.1 c.loop-turn.turn
     c.index-vectors-turn.result
@@ -66,7 +66,7 @@ overflow_cast-result c =
     let n = c.args.candidate.now.nest.now in
     let s = c.args.statement in
     let all = whole n s c.args.candidate.now.points.now.of c.vectors_of-vectors.result.now
-    c.args.candidate.now.all_points
+    c.args.candidate.now.points_of_nest
     c.vectors_of-vectors.ensures in
     omega (arith, few_vectors n s c.args.candidate.now.size, ap length all)
 
@@ -75,7 +75,7 @@ returns-in-Err-clause-overflow c =
     let n = c.args.candidate.now.nest.now in
     let s = c.args.statement in
     let items = c.vectors_of-vectors.result.now in
-    let all = whole n s c.args.candidate.now.points.now.of items c.args.candidate.now.all_points
+    let all = whole n s c.args.candidate.now.points.now.of items c.args.candidate.now.points_of_nest
     c.vectors_of-vectors.ensures in
     let vectors : List (List ℤ) = get_or (points_of n) s [] in
     let there = here vectors items c.loop-turn.turn c.index-vectors-turn.result all c.loop-turn-test.true
@@ -91,7 +91,7 @@ loop-turn-preserved c =
     let turn = c.loop-turn.turn in
     let at = c.index-vectors-turn.result in
     let items = c.vectors_of-vectors.result.now in
-    let all = whole n s c.args.candidate.now.points.now.of items c.args.candidate.now.all_points
+    let all = whole n s c.args.candidate.now.points.now.of items c.args.candidate.now.points_of_nest
     c.vectors_of-vectors.ensures in
     let vectors : List (List ℤ) = get_or (points_of n) s [] in
     let there = here vectors items turn at all c.loop-turn-test.true c.index-vectors-turn.is in
@@ -110,6 +110,7 @@ loop-turn-preserved c =
       known = c.eval.ensures.known;
       told = c.take.ensures.left c.args.candidate.now.points.now.of tree
           (get_or c.args.candidate.now.points.now.of s []) turn c.loop-turn.invariant.told;
+      rows = c.loop-turn.invariant.rows;
     }
 
 pub loop-turn-preserved-in-Some : goal.loop-turn-preserved-in-Some
@@ -120,7 +121,7 @@ loop-turn-preserved-in-Some c =
     let turn = c.loop-turn.turn in
     let at = c.index-vectors-turn.result in
     let items = c.vectors_of-vectors.result.now in
-    let all = whole n s c.args.candidate.now.points.now.of items c.args.candidate.now.all_points
+    let all = whole n s c.args.candidate.now.points.now.of items c.args.candidate.now.points_of_nest
     c.vectors_of-vectors.ensures in
     let vectors : List (List ℤ) = get_or (points_of n) s [] in
     let there = here vectors items turn at all c.loop-turn-test.true c.index-vectors-turn.is in
@@ -139,12 +140,13 @@ loop-turn-preserved-in-Some c =
       added = λ k checked. row_more n s k turn at tree c.loop-turn.sources c.push.new.self (Some c.in-Some.tag)
           (given_at n s k tree checked turn at there) (c.loop-turn.invariant.added k checked)
           (λ writer h. given_tag n c.args.candidate.now.points.now.of tree at c.in-Some.tag
-          c.args.candidate.now.all_points told writer h)
+          c.args.candidate.now.points_of_nest told writer h)
           c.in_ok-push.ensures.ok;
       known = c.loop-turn.invariant.known;
       told = c.in-Some.ensures.left c.args.candidate.now.points.now.of tree
           (get_or c.args.candidate.now.points.now.of s []) turn
           c.loop-turn.invariant.told;
+      rows = c.loop-turn.invariant.rows;
     }
 
 pub loop-turn-preserved-in-Some-guessed_tag : goal.loop-turn-preserved-in-Some-guessed_tag
@@ -155,7 +157,7 @@ loop-turn-preserved-in-Some-guessed_tag c =
     let turn = c.loop-turn.turn in
     let at = c.index-vectors-turn.result in
     let items = c.vectors_of-vectors.result.now in
-    let all = whole n s c.args.candidate.now.points.now.of items c.args.candidate.now.all_points
+    let all = whole n s c.args.candidate.now.points.now.of items c.args.candidate.now.points_of_nest
     c.vectors_of-vectors.ensures in
     let vectors : List (List ℤ) = get_or (points_of n) s [] in
     let there = here vectors items turn at all c.loop-turn-test.true c.index-vectors-turn.is in
@@ -171,10 +173,11 @@ loop-turn-preserved-in-Some-guessed_tag c =
           (Some c.in-Some-guessed_tag.tag)
           (given_at n s k tree checked turn at there) (c.loop-turn.invariant.added k checked)
           (λ writer h. given_tag n c.args.candidate.now.points.now.of tree at c.in-Some-guessed_tag.tag
-          c.args.candidate.now.all_points told writer h)
+          c.args.candidate.now.points_of_nest told writer h)
           c.in_ok-push-2.ensures.ok;
       known = c.loop-turn.invariant.known;
-      told = c.later_tags-told.ensures tree c.loop-turn.invariant.known;
+      told = c.later_tags-told.ensures.told tree c.loop-turn.invariant.known;
+      rows = c.later_tags-told.ensures.rows;
     }
 
 pub later_tags-told-requires-clause-statement : goal.later_tags-told-requires-clause-statement
@@ -184,7 +187,7 @@ later_tags-told-requires-clause-statement c =
       c.requires.statement,
       points_length c.args.candidate.now.nest.now,
       ap length
-          c.args.candidate.now.all_points,
+          c.args.candidate.now.points_of_nest,
     )
 
 pub returns-clause-overflow : goal.returns-clause-overflow
@@ -192,7 +195,7 @@ returns-clause-overflow c =
     let n = c.args.candidate.now.nest.now in
     let s = c.args.statement in
     let all = whole n s c.args.candidate.now.points.now.of c.vectors_of-vectors.result.now
-    c.args.candidate.now.all_points
+    c.args.candidate.now.points_of_nest
     c.vectors_of-vectors.ensures in
     let vectors : List (List ℤ) = get_or (points_of n) s [] in
     sym (first_none (at_vector c.args.tree.now vectors) (length vectors)
@@ -203,7 +206,7 @@ returns-clause-sources c _ k checked =
     let n = c.args.candidate.now.nest.now in
     let s = c.args.statement in
     let all = whole n s c.args.candidate.now.points.now.of c.vectors_of-vectors.result.now
-    c.args.candidate.now.all_points
+    c.args.candidate.now.points_of_nest
     c.vectors_of-vectors.ensures in
     c.loop-turn.invariant.added k checked
     ∙ row_whole n s k c.loop-turn.turn (omega (arith, c.loop-turn.auto.turn-end, ap length all))

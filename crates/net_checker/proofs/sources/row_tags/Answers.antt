@@ -2,8 +2,8 @@ use Rattle.std.proofs.Common.{◌≡◌, ◌+◌, ◌*◌, ◌≤◌, [], Some, 
 use Rattle.net_checker.proofs.TagRows.{IsTold, row_tag}
 use Rattle.net_checker.proofs.sources.row_tags.Goals as goal
 
-pub returns : goal.returns
-returns c =
+pub returns-clause-told : goal.returns-clause-told
+returns-clause-told c =
     λ tree known i here lt is.
     let w = c.args.pace.now.statement in
     let next = c.in_ok-next.next in
@@ -28,7 +28,7 @@ returns c =
     ap (slice_get (get_or of w [])) (sym tags) ∙ sym c.in_ok-last_there.ensures in
     row_tag c.args.candidate.now.nest.now of tree c.args.follower.now u w c.args.turn next step
     m c.in_ok-first_at.first_at.now c.in_ok-last_at.last_at.now c.in_ok-first_there.first_there.now
-    c.in_ok-last_there.last_there.now c.args.candidate.now.all_points known (omega (arith, c.if-length-eq0.false))
+    c.in_ok-last_there.last_there.now c.args.candidate.now.points_of_nest known (omega (arith, c.if-length-eq0.false))
     (sym c.in_ok-first_at.ensures) is_to (sym c.in_ok-first_there.ensures) is_goal
-    (c.is_ahead.ensures c.if-not-is_ahead.false) (c.is_even_row.ensures c.if-not-is_even_row.false) first last i here within
+    (c.is_ahead.ensures c.if-not-is_ahead.false) (c.is_even_row.ensures.row c.if-not-is_even_row.false) first last i here within
     is

@@ -17,7 +17,7 @@ vectors_of-vectors-requires c =
       trace-statement n entry.0 c.in-At.point entry.2,
       points_length n,
       ap length
-          c.args.candidate.now.all_points,
+          c.args.candidate.now.points_of_nest,
     )
 
 pub returns-in_err-turn-in-At : goal.returns-in_err-turn-in-At
@@ -26,7 +26,7 @@ returns-in_err-turn-in-At c writer h =
     let p = c.in-At.point in
     let entry = entry_found n writer c.args.found.now p (sym c.in-At.is) h in
     let turn = turn_is n entry.0 p entry.2 c.args.candidate.now.points.now.of c.vectors_of-vectors.result.now
-    c.args.candidate.now.all_points
+    c.args.candidate.now.points_of_nest
     c.vectors_of-vectors.ensures c.turn_of.result c.turn_of.ensures in
     let none = c.in_err-turn-in-At.was in
     absurd (cc)
@@ -37,7 +37,7 @@ overflow_cast-result c =
     let p = c.in-At.point in
     let entry = entry_found n c.requires.0 c.args.found.now p (sym c.in-At.is) c.requires.1 in
     let turn = turn_is n entry.0 p entry.2 c.args.candidate.now.points.now.of c.vectors_of-vectors.result.now
-    c.args.candidate.now.all_points
+    c.args.candidate.now.points_of_nest
     c.vectors_of-vectors.ensures c.turn_of.result c.turn_of.ensures in
     omega (
       arith,
@@ -52,7 +52,7 @@ returns-in_ok-turn-in-At c writer h =
     let p = c.in-At.point in
     let entry = entry_found n writer c.args.found.now p (sym c.in-At.is) h in
     let turn = turn_is n entry.0 p entry.2 c.args.candidate.now.points.now.of c.vectors_of-vectors.result.now
-    c.args.candidate.now.all_points
+    c.args.candidate.now.points_of_nest
     c.vectors_of-vectors.ensures c.turn_of.result c.turn_of.ensures in
     ap (λ t. Some (record { process = p.statement; turn = t })) (same_Some _ _ (sym c.in_ok-turn-in-At.was ∙ turn))
     ∙ tag_of_entry n entry.0 p entry.2 ∙ sym (ap (option_and_then (tag_at (trace n))) entry.1)

@@ -7,7 +7,7 @@ use Rattle.net_checker.proofs.TagSteps.{opens, opens_state}
 use Rattle.net_checker.proofs.tag_state.TagState.new.Goals as goal
 
 pub invariant_of-wired-clause-wired : goal.invariant_of-wired-clause-wired
-invariant_of-wired-clause-wired c = c.args.fitting.now.fits.shaped.wired
+invariant_of-wired-clause-wired c = c.args.fitting.now.shape.shaped.wired
 
 pub invariant_of-wired-clause-numbers : goal.invariant_of-wired-clause-numbers
 invariant_of-wired-clause-numbers c = c.args.fitting.now.numbers

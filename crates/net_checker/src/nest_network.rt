@@ -11,22 +11,22 @@ use sanlp::{Nest, Points};
 
 /// A network that is judged for a nest, with the nest's points.
 #[derive(Drop)]
-pub(crate) struct Candidate<'a> {
+pub(crate) struct NestNetwork<'a> {
     pub(crate) nest: &'a Nest,
     pub(crate) points: &'a Points,
     pub(crate) network: &'a Network,
     ghost size: { SizeIsOk nest.now },
-    ghost all_points: { points.now.of ≡ points_of nest.now },
+    ghost points_of_nest: { points.now.of ≡ points_of nest.now },
     ghost numbers: { FitsNumbers (net_of network.now) },
 }
 
-/// A candidate whose network's shape is that of the nest's points and reads.
+/// The same, where the network's shape is that of the nest's points and reads.
 #[derive(Drop)]
-pub(crate) struct Fitting<'a> {
+pub(crate) struct ShapedNetwork<'a> {
     pub(crate) nest: &'a Nest,
     pub(crate) points: &'a Points,
     pub(crate) network: &'a Network,
-    ghost all_points: { points.now.of ≡ points_of nest.now },
+    ghost points_of_nest: { points.now.of ≡ points_of nest.now },
     ghost numbers: { FitsNumbers (net_of network.now) },
-    ghost fits: { FitsNest nest.now network.now } by { Prim.hlevel wired_props },
+    ghost shape: { FitsNest nest.now network.now } by { Prim.hlevel wired_props },
 }

@@ -167,29 +167,13 @@ fn numbers_fit(network: &Network) -> bool
     network.processes.len() < 1 << 32 && network.channels.len() < 1 << 32 && events < 1 << 32
 }
 
-// The verdict on a network of a nest and its certificate.
-fn checked(
+// The verdicts on a network of a nest and its certificate, and on the same where its schedule is kept folded.
+fn verdicts(
     alloc: Global,
     nest: &Nest,
     network: &Network,
     cert: &Cert,
-) -> Result<Verdict, AllocError>
-    requires size { SizeIsOk nest.now }
-    requires numbers { FitsNumbers (net_of network.now) }
-{
-    let points = points(alloc, nest)?;
-    let verdict = check(alloc, nest, &points, network, cert);
-    drop(points);
-    verdict
-}
-
-// The verdict on the same certificate where its schedule is kept folded.
-fn checked_folded(
-    alloc: Global,
-    nest: &Nest,
-    network: &Network,
-    cert: &Cert,
-) -> Result<Verdict, AllocError>
+) -> Result<(Verdict, Verdict), AllocError>
     requires size { SizeIsOk nest.now }
     requires numbers { FitsNumbers (net_of network.now) }
 {
@@ -198,9 +182,9 @@ fn checked_folded(
     }
     let schedule = Script::folded(alloc, cert.schedule.as_slice())?;
     let points = points(alloc, nest)?;
-    let verdict = check_folded(alloc, nest, &points, network, cert, &schedule);
-    drop(points);
-    verdict
+    let verdict = check(alloc, nest, &points, network, cert)?;
+    let folded = check_folded(alloc, nest, &points, network, cert, &schedule)?;
+    Ok((verdict, folded))
 }
 
 // The verdict on a network of a nest, where its numbers are within their limits, and where the schedule is kept folded it is the
@@ -212,11 +196,8 @@ fn judged(alloc: Global, nest: &Nest, row: &Row, cert: &Cert) -> Result<Verdict,
     if !numbers_fit(&network) {
         return Err(Fail::from("the network is large"));
     }
-    let verdict = checked(alloc, nest, &network, cert);
-    let folded = checked_folded(alloc, nest, &network, cert);
-    drop(network);
-    let verdict = verdict?;
-    if folded? != verdict {
+    let (verdict, folded) = verdicts(alloc, nest, &network, cert)?;
+    if folded != verdict {
         return Err(Fail::from("a folded schedule is judged otherwise"));
     }
     Ok(verdict)

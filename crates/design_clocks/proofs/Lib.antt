@@ -5,4 +5,5 @@ pub mod Clocked
 pub mod Plain
 pub mod FilledSlots
 pub mod Rings
+pub mod ListedRuns
 mod Worked

@@ -1,11 +1,11 @@
 -- Designs of small networks, edge by edge, computed from the definitions.
 --
--- The numbers are those of the clocked runs, which were counted by hand: each node makes one event at an edge, if what
--- it needs was there before. So a token that is given at one edge is taken at the next one at the earliest, and a place
--- that is left at one edge is filled at the next one. Written out, an edge asks the one before it for the same
--- registers again and again, so here they are kept in lists, which changes nothing (`run_is`). They are examples: no
--- law follows from them.
-use Rattle.std.proofs.Common.{◌≡◌, ℕ, zero, suc, ◌+◌, Bool, true, false, is_none, Option, Some, None, List, [], ◌∷◌, map}
+-- The numbers are those of the clocked runs, which were counted by hand: each node makes one event at an edge, if
+-- what it needs was there before. So a token that is given at one edge is taken at the next one at the earliest,
+-- and a place that is left at one edge is filled at the next one. Written out, an edge asks the one before it for
+-- the same registers again and again, so here they are kept in lists, which changes nothing (ListedRuns). They are
+-- examples: no law follows from them.
+use Rattle.std.proofs.Common.{◌≡◌, ℕ, ◌+◌, Bool, true, false, is_none, List, [], ◌∷◌, map}
 use Rattle.std.proofs.Common.{◌++◌, slice_get, refl, sym, ap, ◌∙◌, arith}
 use Rattle.std.specs.Prelude.{slice_index_or}
 use Rattle.std.specs.List.{range_with_len}
@@ -22,19 +22,9 @@ use Rattle.repeat_sequencer.specs.declared.sequencer.Sequencer.{Sequencer}
 use Rattle.repeat_sequencer.specs.Steps.{past_ends}
 use Rattle.design_clocks.specs.Registers.{Controls, Design, Registers, after_edges, behind_reset, edge, event_at}
 use Rattle.design_clocks.specs.Plain.{plain}
+use Rattle.design_clocks.proofs.ListedRuns.{listed_from, listed_or, listed_run, listed_run_is}
 
 -- Registers in lists
-
--- what a list has for a number, and else what is given for it outright
-abbrev listed_or : {X : Type 0} → Option X → (ℕ → X) → ℕ → X
-listed_or None f p = f p
-listed_or (Some x) f p = x
-
-listed_from : {X : Type 0} (f : ℕ → X) (m a i p : ℕ) → p ≡ a + i
-    → listed_or (slice_get (map f (range_with_len a m)) i) f p ≡ f p
-listed_from f zero a i p sum = refl
-listed_from f (suc m) a zero p sum = let same : a ≡ p = omega arith in ap f same
-listed_from f (suc m) a (suc i) p sum = listed_from f m (a + 1) i p (omega arith)
 
 abbrev in_lists : List (Registers Tag) → List (List Tag) → Design Tag → Design Tag
 in_lists nodes fifos d = record {
@@ -52,19 +42,15 @@ listed_is n d =
     λ i. record { node = nodes i; fifo = fifos i }
 
 abbrev run : Net → Controls → ℕ → Design Tag
-run n controls zero = listed n (behind_reset n controls)
-run n controls (suc k) = listed n (edge n controls tags (λ p. true) (run n controls k))
-
-run_is : (n : Net) (controls : Controls) (k : ℕ) → run n controls k ≡ after_edges n controls tags k
-run_is n controls zero = listed_is n (behind_reset n controls)
-run_is n controls (suc k) =
-    listed_is n (edge n controls tags (λ p. true) (run n controls k))
-    ∙ ap (edge n controls tags (λ p. true)) (run_is n controls k)
+run n controls k = listed_run (listed n) (behind_reset n controls) (edge n controls tags (λ p. true)) k
 
 after_run : {X : Type 0} (f : Design Tag → X) (n : Net) (controls : Controls) (k : ℕ) (x : X)
     → f (run n controls k) ≡ x
     → f (after_edges n controls tags k) ≡ x
-after_run f n controls k x e = ap f (sym (run_is n controls k)) ∙ e
+after_run f n controls k x e =
+    ap f (sym (listed_run_is (listed n) (behind_reset n controls) (edge n controls tags (λ p. true)) (listed_is n)
+    (λ j. after_edges n controls tags j) refl (λ j. refl) k))
+    ∙ e
 
 -- Networks
 

@@ -1,54 +1,46 @@
 //! A process that runs alone, over ends in memory.
 ghost use Rattle.std.specs.Prelude.{◌≡◌, ◌+◌, ◌-◌, ◌<◌, ℕ, ℤ, true, false, [], ◌∷◌, ◌++◌, length, if◌then◌else◌, slice_get, Some, IfOk, IfSome, OnOk};
-ghost use Rattle.sanlp.specs.Points.{points_of};
 ghost use Rattle.net_core.specs.Held.{held_of, run_of, IsFor};
 ghost use Rattle.net_core.specs.Machine.{net_of, start};
 ghost use Rattle.net_core.specs.Names.{fired};
 ghost use Rattle.net_core.specs.Orders.{EndsAll};
 ghost use Rattle.net_core.specs.Rules.{tags};
-ghost use Rattle.net_core.specs.Shape.{fires, is_fire, is_put, FitsNumbers};
+ghost use Rattle.net_core.specs.Shape.{fires, is_fire, is_put};
 ghost use Rattle.net_core.specs.Sound.{IsSound, tag_value};
 ghost use Rattle.node_runner.specs.Logs.{nth_stream};
 ghost use Rattle.node_runner.specs.Nodes.{stream};
 
+use crate::bound::Made;
 use io_edge::Open;
 use net_core::{Event, Network, Room, State, Values, every_order, kept, sound, start};
 use node_runner::{LogEnds, run_node};
 use plain_data::Items;
-use sanlp::{Inputs, Nest, Points, Tag};
+use sanlp::{Inputs, Tag};
 use script_blocks::Script;
 use std::alloc::{AllocError, Global};
 use std::sync::Wait;
 use witness_plan::run_by;
 
-// Runs a network along a schedule that ends all.
-fn run_along(
-    nest: &Nest,
-    points: &Points,
-    inputs: &Inputs,
-    network: &Network,
-    schedule: &[u32],
-    state: &mut State<i64>,
-)
-    requires points { points.now.of ≡ points_of nest.now }
-    requires sound { IsSound nest.now network.now }
-    requires ends { EndsAll (net_of network.now) tags schedule.now }
-    requires opening { run_of state.old ≡ start (net_of network.now) }
-    requires state { IsFor (net_of network.now) (held_of state.old) }
+// Runs a network along the schedule of its certificate.
+fn run_along(made: &Made, inputs: &Inputs, state: &mut State<i64>)
+    requires sound { IsSound made.now.nest made.now.network }
+    requires ends { EndsAll (net_of made.now.network) tags made.now.cert.schedule }
+    requires opening { run_of state.old ≡ start (net_of made.now.network) }
+    requires state { IsFor (net_of made.now.network) (held_of state.old) }
     ensures kept { (p : ℕ)
         → ((run_of state.new).local p).kept
-        ≡ fired (tag_value nest.now inputs.now) p
-        (fires (net_of network.now) p (length ((net_of network.now).script p))) }
-    ensures state { IsFor (net_of network.now) (held_of state.new) }
+        ≡ fired (tag_value made.now.nest inputs.now) p
+        (fires (net_of made.now.network) p (length ((net_of made.now.network).script p))) }
+    ensures state { IsFor (net_of made.now.network) (held_of state.new) }
 {
     every_order::<Tag, i64>();
     sound();
     let rule = Values {
-        nest,
-        points,
+        nest: &made.nest,
+        points: &made.points,
         inputs,
     };
-    run_by(state, network, &rule, schedule);
+    run_by(state, &made.network, &rule, made.cert.schedule.as_slice());
 }
 
 // Whether an event puts to this channel.
@@ -125,20 +117,20 @@ fn pass_event(
 // The stream of a channel whose writer has this script and has kept this: what it kept last before each of its Puts.
 fn values_put(
     alloc: Global,
-    _nest: &Nest,
+    _made: &Made,
     _inputs: &Inputs,
-    _network: &Network,
     events: &[Event],
     kept: &[i64],
     channel: u32,
 ) -> Result<Vec<i64>, AllocError>
     requires events { events.now
-        ≡ (net_of _network.now).script ((net_of _network.now).writer channel) }
+        ≡ (net_of _made.now.network).script ((net_of _made.now.network).writer channel) }
     requires kept { kept.now
-        ≡ fired (tag_value _nest.now _inputs.now) ((net_of _network.now).writer channel)
-        (fires (net_of _network.now) ((net_of _network.now).writer channel) (length events.now)) }
+        ≡ fired (tag_value _made.now.nest _inputs.now) ((net_of _made.now.network).writer channel)
+        (fires (net_of _made.now.network) ((net_of _made.now.network).writer channel)
+        (length events.now)) }
     ensures { IfOk result
-        (λ values. values.items ≡ stream _nest.now _network.now _inputs.now channel) }
+        (λ values. values.items ≡ stream _made.now.nest _made.now.network _inputs.now channel) }
 {
     let mut values = Vec::new(alloc);
     let mut fires = 0;
@@ -175,84 +167,66 @@ fn expanded(alloc: Global, script: &Script<Event>) -> Result<Items<Event>, Alloc
 // The stream of a channel.
 fn stream_of(
     alloc: Global,
-    nest: &Nest,
+    made: &Made,
     inputs: &Inputs,
-    network: &Network,
     state: &State<i64>,
     channel: u32,
 ) -> Result<Vec<i64>, AllocError>
+    requires sound { IsSound made.now.nest made.now.network }
     requires kept { (p : ℕ)
         → ((run_of state.now).local p).kept
-        ≡ fired (tag_value nest.now inputs.now) p
-        (fires (net_of network.now) p (length ((net_of network.now).script p))) }
-    requires state { IsFor (net_of network.now) (held_of state.now) }
-    requires channel { channel < length network.now.channels }
-    requires sound { IsSound nest.now network.now }
+        ≡ fired (tag_value made.now.nest inputs.now) p
+        (fires (net_of made.now.network) p (length ((net_of made.now.network).script p))) }
+    requires state { IsFor (net_of made.now.network) (held_of state.now) }
+    requires channel { channel < length made.now.network.channels }
     ensures { IfOk result
-        (λ values. values.items ≡ stream nest.now network.now inputs.now channel) }
+        (λ values. values.items ≡ stream made.now.nest made.now.network inputs.now channel) }
 {
-    let writer = writer_of(network, channel);
+    let writer = writer_of(&made.network, channel);
     let kept = kept(state, writer);
-    let events = expanded(alloc, script_of(network, writer))?;
-    values_put(
-        alloc,
-        nest,
-        inputs,
-        network,
-        events.as_slice(),
-        kept,
-        channel,
-    )
+    let events = expanded(alloc, script_of(&made.network, writer))?;
+    values_put(alloc, made, inputs, events.as_slice(), kept, channel)
 }
 
 // The streams of all channels, in order.
 fn streams_of(
     alloc: Global,
-    nest: &Nest,
+    made: &Made,
     inputs: &Inputs,
-    network: &Network,
     state: &State<i64>,
 ) -> Result<Vec<Vec<i64>>, AllocError>
+    requires sound { IsSound made.now.nest made.now.network }
     requires kept { (p : ℕ)
         → ((run_of state.now).local p).kept
-        ≡ fired (tag_value nest.now inputs.now) p
-        (fires (net_of network.now) p (length ((net_of network.now).script p))) }
-    requires state { IsFor (net_of network.now) (held_of state.now) }
-    requires numbers { FitsNumbers (net_of network.now) }
-    requires sound { IsSound nest.now network.now }
-    ensures number { IfOk result (λ streams. length streams.items ≡ length network.now.channels) }
+        ≡ fired (tag_value made.now.nest inputs.now) p
+        (fires (net_of made.now.network) p (length ((net_of made.now.network).script p))) }
+    requires state { IsFor (net_of made.now.network) (held_of state.now) }
+    ensures number { IfOk result
+        (λ streams. length streams.items ≡ length made.now.network.channels) }
     ensures each { IfOk result
-        (λ streams. (c : ℕ) → c < length network.now.channels
-        → nth_stream streams.items c ≡ stream nest.now network.now inputs.now c) }
+        (λ streams. (c : ℕ) → c < length made.now.network.channels
+        → nth_stream streams.items c ≡ stream made.now.nest made.now.network inputs.now c) }
 {
     let mut streams = Vec::new(alloc);
-    for channel in 0..network.channels.len() {
-        streams.push(stream_of(alloc, nest, inputs, network, state, channel as u32)?)?;
+    for channel in 0..made.network.channels.len() {
+        streams.push(stream_of(alloc, made, inputs, state, channel as u32)?)?;
     }
     Ok(streams)
 }
 
 // The streams of all channels of a sound network.
-fn streams_along(
-    alloc: Global,
-    nest: &Nest,
-    points: &Points,
-    inputs: &Inputs,
-    network: &Network,
-    schedule: &[u32],
-) -> Result<Vec<Vec<i64>>, AllocError>
-    requires points { points.now.of ≡ points_of nest.now }
-    requires numbers { FitsNumbers (net_of network.now) }
-    requires sound { IsSound nest.now network.now }
-    requires ends { EndsAll (net_of network.now) tags schedule.now }
-    ensures number { IfOk result (λ streams. length streams.items ≡ length network.now.channels) }
+fn streams_along(alloc: Global, made: &Made, inputs: &Inputs) -> Result<Vec<Vec<i64>>, AllocError>
+    requires sound { IsSound made.now.nest made.now.network }
+    requires ends { EndsAll (net_of made.now.network) tags made.now.cert.schedule }
+    ensures number { IfOk result
+        (λ streams. length streams.items ≡ length made.now.network.channels) }
     ensures each { IfOk result
-        (λ streams. (c : ℕ) → c < length network.now.channels
-        → nth_stream streams.items c ≡ stream nest.now network.now inputs.now c) }
+        (λ streams. (c : ℕ) → c < length made.now.network.channels
+        → nth_stream streams.items c ≡ stream made.now.nest made.now.network inputs.now c) }
 {
-    let mut state = start(alloc, network, points)?;
-    run_along(nest, points, inputs, network, schedule, &mut state);
-    let streams = streams_of(alloc, nest, inputs, network, &state);
+    let mut state = start(alloc, &made.network, &made.points)?;
+    run_along(made, inputs, &mut state);
+    let streams = streams_of(alloc, made, inputs, &state);
     drop(state);
     streams
 }
@@ -261,24 +235,27 @@ fn streams_along(
 pub(crate) fn run_alone<R: Wait>(
     rt: &R,
     alloc: Global,
-    nest: &Nest,
-    points: &Points,
+    made: &Made,
     inputs: &Inputs,
-    network: &Network,
-    schedule: &[u32],
     process: u32,
 ) -> Result<(Room<i64>, LogEnds), AllocError>
-    requires points { points.now.of ≡ points_of nest.now }
-    requires numbers { FitsNumbers (net_of network.now) }
-    requires sound { IsSound nest.now network.now }
-    requires ends { EndsAll (net_of network.now) tags schedule.now }
-    requires process { process < length network.now.processes }
+    requires sound { IsSound made.now.nest made.now.network }
+    requires ends { EndsAll (net_of made.now.network) tags made.now.cert.schedule }
+    requires process { process < length made.now.network.processes }
 {
-    let streams = streams_along(alloc, nest, points, inputs, network, schedule)?;
-    let mut room = Room::new(alloc, network, points, process)?;
-    let mut ends = LogEnds::new(alloc, network, process, &streams)?;
+    let streams = streams_along(alloc, made, inputs)?;
+    let mut room = Room::new(alloc, &made.network, &made.points, process)?;
+    let mut ends = LogEnds::new(alloc, &made.network, process, &streams)?;
     run_node(
-        rt, nest, points, inputs, network, process, &mut room, &mut ends, &Open,
+        rt,
+        &made.nest,
+        &made.points,
+        inputs,
+        &made.network,
+        process,
+        &mut room,
+        &mut ends,
+        &Open,
     );
     Ok((room, ends))
 }

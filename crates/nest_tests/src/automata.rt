@@ -1,8 +1,4 @@
 //! Tests of `node_automata`, and so of the scripts that `process_derive` makes.
-ghost use Rattle.std.specs.Prelude.{◌≡◌};
-ghost use Rattle.sanlp.specs.Points.{points_of};
-ghost use Rattle.net_core.specs.Machine.{net_of};
-ghost use Rattle.net_core.specs.Shape.{FitsNumbers};
 ghost use Rattle.net_core.specs.Sound.{IsSound};
 
 use crate::bound::{Made, make};
@@ -195,9 +191,7 @@ fn are_wanted(autos: &[NodeAuto]) -> bool {
 
 // Whether the automata of a network are what is wanted.
 fn all_are_wanted(alloc: Global, made: &Made) -> Result<bool, AllocError>
-    requires points { made.now.points.of ≡ points_of made.now.nest }
-    requires numbers { FitsNumbers (net_of made.now.network) }
-    requires sound { IsSound made.now.nest made.now.network }
+    requires { IsSound made.now.nest made.now.network }
 {
     let autos = automata(alloc, &made.nest, &made.points, &made.network)?;
     let are_wanted = are_wanted(&autos);
@@ -207,9 +201,7 @@ fn all_are_wanted(alloc: Global, made: &Made) -> Result<bool, AllocError>
 
 // Whether the automaton of a process by itself is what is wanted.
 fn one_is_wanted(alloc: Global, made: &Made, wanted: &Wanted) -> Result<bool, AllocError>
-    requires points { made.now.points.of ≡ points_of made.now.nest }
-    requires numbers { FitsNumbers (net_of made.now.network) }
-    requires sound { IsSound made.now.nest made.now.network }
+    requires { IsSound made.now.nest made.now.network }
 {
     if wanted.process as usize >= made.network.processes.len() {
         return Ok(false);
@@ -246,9 +238,7 @@ fn negations(expr: &Expr) -> u32 {
 
 // How many negations the expression of the first process begins with.
 fn first_negations(alloc: Global, made: &Made) -> Result<u32, AllocError>
-    requires points { made.now.points.of ≡ points_of made.now.nest }
-    requires numbers { FitsNumbers (net_of made.now.network) }
-    requires sound { IsSound made.now.nest made.now.network }
+    requires { IsSound made.now.nest made.now.network }
 {
     let autos = automata(alloc, &made.nest, &made.points, &made.network)?;
     let many = match autos.first() {

@@ -66,6 +66,9 @@ pub(crate) struct Made {
     pub points: Points,
     pub network: Network,
     pub cert: Cert,
+    ghost size: { SizeIsOk nest },
+    ghost points_of_nest: { points.of ≡ points_of nest },
+    ghost numbers: { FitsNumbers (net_of network) },
 }
 
 // What is accepted is sound. It does nothing.
@@ -80,10 +83,7 @@ fn fitting_is_sound(nest: &Nest, network: &Network, cert: &Cert)
 fn with_network(alloc: Global, nest: Nest, points: Points, policy: Policy) -> Result<Made, Fail>
     requires size { SizeIsOk nest }
     requires points { points.of ≡ points_of nest }
-    ensures size { IfOk result (λ made. SizeIsOk made.nest) }
-    ensures points { IfOk result (λ made. made.points.of ≡ points_of made.nest) }
     ensures planned { IfOk result (λ made. made.network ≡ planned_network made.nest policy) }
-    ensures numbers { IfOk result (λ made. FitsNumbers (net_of made.network)) }
     ensures sound { IfOk result (λ made. IsSound made.nest made.network) }
     ensures ends { IfOk result
         (λ made. EndsAll (net_of made.network) tags made.cert.schedule) }
@@ -109,10 +109,7 @@ fn with_network(alloc: Global, nest: Nest, points: Points, policy: Policy) -> Re
 /// What is made of a source whose parameter N, if it has one, has this value, with the capacities that the schedule under this
 /// policy needs.
 pub(crate) fn make(alloc: Global, source: &[u8], value: i64, policy: Policy) -> Result<Made, Fail>
-    ensures size { IfOk result (λ made. SizeIsOk made.nest) }
-    ensures points { IfOk result (λ made. made.points.of ≡ points_of made.nest) }
     ensures planned { IfOk result (λ made. made.network ≡ planned_network made.nest policy) }
-    ensures numbers { IfOk result (λ made. FitsNumbers (net_of made.network)) }
     ensures sound { IfOk result (λ made. IsSound made.nest made.network) }
     ensures ends { IfOk result
         (λ made. EndsAll (net_of made.network) tags made.cert.schedule) }
@@ -127,22 +124,24 @@ pub(crate) fn make(alloc: Global, source: &[u8], value: i64, policy: Policy) -> 
     }
 }
 
-/// Whether the checker accepts a network and a certificate.
-pub(crate) fn is_accepted(
+/// Whether the checker accepts a network of the nest with a certificate.
+pub(crate) fn accepts(
     alloc: Global,
-    nest: &Nest,
-    points: &Points,
+    made: &Made,
     network: &Network,
     cert: &Cert,
 ) -> Result<bool, AllocError>
-    requires size { SizeIsOk nest.now }
-    requires points { points.now.of ≡ points_of nest.now }
-    requires numbers { FitsNumbers (net_of network.now) }
+    requires { FitsNumbers (net_of network.now) }
 {
-    let verdict = check(alloc, nest, points, network, cert)?;
+    let verdict = check(alloc, &made.nest, &made.points, network, cert)?;
     let is_accepted = matches!(verdict, Verdict::Accepted);
     drop(verdict);
     Ok(is_accepted)
+}
+
+/// Whether the checker accepts the nest's network with its certificate.
+pub(crate) fn is_accepted(alloc: Global, made: &Made) -> Result<bool, AllocError> {
+    accepts(alloc, made, &made.network, &made.cert)
 }
 
 /// The values of each declared array; none where it is no input.

@@ -1,12 +1,9 @@
 //! Tests of `clock_sim::simulate` and `port_sim::clock_count`.
-ghost use Rattle.std.specs.Prelude.{◌≡◌};
-ghost use Rattle.sanlp.specs.Points.{points_of};
-ghost use Rattle.net_core.specs.Machine.{net_of};
-ghost use Rattle.net_core.specs.Shape.{FitsNumbers};
 ghost use Rattle.net_core.specs.Sound.{IsSound};
 
 use crate::bound::{INCREMENT, Made, inputs, make};
 use clock_sim::{Clocked, simulate};
+use net_core::WiredNetwork;
 use node_automata::automata;
 use port_sim::{clock_count, sound_networks_end};
 use sanlp::Inputs;
@@ -83,9 +80,7 @@ static INCREMENTS: [Increment; 6] = [
 
 // The clocked run of a network.
 fn simulated(alloc: Global, made: &Made, inputs: &Inputs) -> Result<Clocked, AllocError>
-    requires points { made.now.points.of ≡ points_of made.now.nest }
-    requires numbers { FitsNumbers (net_of made.now.network) }
-    requires sound { IsSound made.now.nest made.now.network }
+    requires { IsSound made.now.nest made.now.network }
 {
     let autos = automata(alloc, &made.nest, &made.points, &made.network)?;
     let clocked = simulate(
@@ -111,9 +106,7 @@ fn is_wanted(clocked: &Clocked, wanted: &Increment) -> bool {
 
 // Whether the clocked run of a network is what is wanted.
 fn runs_by_the_clock(alloc: Global, made: &Made, wanted: &Increment) -> Result<bool, AllocError>
-    requires points { made.now.points.of ≡ points_of made.now.nest }
-    requires numbers { FitsNumbers (net_of made.now.network) }
-    requires sound { IsSound made.now.nest made.now.network }
+    requires { IsSound made.now.nest made.now.network }
 {
     let inputs = inputs(alloc, wanted.inputs)?;
     let clocked = simulated(alloc, made, &inputs);
@@ -123,11 +116,13 @@ fn runs_by_the_clock(alloc: Global, made: &Made, wanted: &Increment) -> Result<b
 
 // The number of clocks of a network whose ports go each at its own pace.
 fn counted(alloc: Global, made: &Made) -> Result<u64, AllocError>
-    requires numbers { FitsNumbers (net_of made.now.network) }
-    requires sound { IsSound made.now.nest made.now.network }
+    requires { IsSound made.now.nest made.now.network }
 {
     sound_networks_end();
-    clock_count(alloc, &made.network)
+    let wired = WiredNetwork {
+        network: &made.network,
+    };
+    clock_count(alloc, &wired)
 }
 
 #[test]

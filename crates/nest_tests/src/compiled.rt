@@ -1,17 +1,13 @@
 //! Tests of `net_maker::compile`: the trees of the reads of a certificate give at each point what `sweep` finds, and a read
 //! outside of the class is swept.
 ghost use Rattle.std.specs.Prelude.{◌≡◌, IfOk};
-ghost use Rattle.sanlp.specs.Points.{points_of};
-ghost use Rattle.sanlp.specs.Size.{SizeIsOk};
-ghost use Rattle.net_core.specs.Machine.{net_of};
-ghost use Rattle.net_core.specs.Shape.{FitsNumbers};
 ghost use Rattle.process_derive.specs.Derived.{net};
 
 use crate::bound::{Made, is_accepted, make};
 use affine_core::{Form, KeptForm, Vector};
 use net_core::Network;
 use process_derive::derive;
-use sanlp::{Nest, Points, Tag};
+use sanlp::{Points, Tag};
 use shadow_sweep::sweep;
 use source_tree::{Origin, SourceTable, Tree};
 use std::alloc::{AllocError, Global};
@@ -124,15 +120,11 @@ fn are_right(made: &Made, table: &SourceTable) -> bool {
 }
 
 // Whether each read has a tree, which gives at the points of its reader what `sweep` finds, and the checker accepts them.
-fn all_have_trees(alloc: Global, made: &Made) -> Result<bool, AllocError>
-    requires size { SizeIsOk made.now.nest }
-    requires points { made.now.points.of ≡ points_of made.now.nest }
-    requires numbers { FitsNumbers (net_of made.now.network) }
-{
+fn all_have_trees(alloc: Global, made: &Made) -> Result<bool, AllocError> {
     let table = sweep(alloc, &made.nest, &made.points)?;
     let are_right = are_right(made, &table);
     drop(table);
-    Ok(is_accepted(alloc, &made.nest, &made.points, &made.network, &made.cert)? && are_right)
+    Ok(is_accepted(alloc, made)? && are_right)
 }
 
 // Sources with values of N, and a policy.
@@ -165,26 +157,18 @@ fn reads_outside_of_the_class_are_swept(rt: HostRuntime) -> Result<(), Fail> {
         made.cert.sources.as_slice(),
         [Origin::Tree(_), Origin::Sweep, Origin::Tree(_)]
     );
-    let is_accepted = is_accepted(
-        rt.alloc(),
-        &made.nest,
-        &made.points,
-        &made.network,
-        &made.cert,
-    );
+    let is_accepted = is_accepted(rt.alloc(), &made);
     drop(made);
     assert!(rt; are_right && is_accepted?);
     Ok(())
 }
 
 // The network of a nest with the number of its tokens as each capacity.
-fn derived(alloc: Global, nest: &Nest, points: &Points) -> Result<Network, AllocError>
-    requires size { SizeIsOk nest.now }
-    requires points { points.now.of ≡ points_of nest.now }
-    ensures { IfOk result (λ network. network ≡ net nest.now) }
+fn derived(alloc: Global, made: &Made) -> Result<Network, AllocError>
+    ensures { IfOk result (λ network. network ≡ net made.now.nest) }
 {
-    let table = sweep(alloc, nest, points)?;
-    let network = derive(alloc, nest, points, &table);
+    let table = sweep(alloc, &made.nest, &made.points)?;
+    let network = derive(alloc, &made.nest, &made.points, &table);
     drop(table);
     network
 }
@@ -192,26 +176,20 @@ fn derived(alloc: Global, nest: &Nest, points: &Points) -> Result<Network, Alloc
 // The capacities that the schedule of such a network needs.
 fn capacities(
     alloc: Global,
-    nest: &Nest,
-    points: &Points,
+    made: &Made,
     network: &Network,
     policy: Policy,
 ) -> Result<Vec<u32>, AllocError>
-    requires size { SizeIsOk nest.now }
-    requires points { points.now.of ≡ points_of nest.now }
-    requires network { network.now ≡ net nest.now }
+    requires { network.now ≡ net made.now.nest }
 {
-    let witness = plan(alloc, nest, points, network, policy)?;
+    let witness = plan(alloc, &made.nest, &made.points, network, policy)?;
     Ok(witness.capacities.into_vec())
 }
 
 // Whether a network is the one that is made step by step of the points.
-fn is_made_of_points(alloc: Global, made: &Made, policy: Policy) -> Result<bool, AllocError>
-    requires size { SizeIsOk made.now.nest }
-    requires points { made.now.points.of ≡ points_of made.now.nest }
-{
-    let network = derived(alloc, &made.nest, &made.points)?;
-    let capacities = capacities(alloc, &made.nest, &made.points, &network, policy)?;
+fn is_made_of_points(alloc: Global, made: &Made, policy: Policy) -> Result<bool, AllocError> {
+    let network = derived(alloc, made)?;
+    let capacities = capacities(alloc, made, &network, policy)?;
     let network = with_capacities(alloc, network, &capacities)?;
     Ok(network.same(&made.network))
 }
@@ -227,13 +205,7 @@ fn networks_made_of_points_are_accepted(rt: HostRuntime) -> Result<(), Fail> {
     for (source, n, policy) in &OF_POINTS {
         let made = make(rt.alloc(), *source, *n, *policy)?;
         let is_same = is_made_of_points(rt.alloc(), &made, *policy);
-        let is_accepted = is_accepted(
-            rt.alloc(),
-            &made.nest,
-            &made.points,
-            &made.network,
-            &made.cert,
-        );
+        let is_accepted = is_accepted(rt.alloc(), &made);
         drop(made);
         assert!(rt; is_same? && is_accepted?);
     }

@@ -1,10 +1,8 @@
 //! Tests of `thread_runner`.
 ghost use Rattle.std.specs.Prelude.{◌≡◌, IfOk, map};
-ghost use Rattle.sanlp.specs.Points.{points_of};
 ghost use Rattle.net_core.specs.Machine.{net_of};
 ghost use Rattle.net_core.specs.Orders.{EndsAll};
 ghost use Rattle.net_core.specs.Rules.{tags};
-ghost use Rattle.net_core.specs.Shape.{FitsNumbers};
 ghost use Rattle.net_core.specs.Sound.{IsSound};
 
 use crate::bound::{Made, has_list, inputs, make};
@@ -118,8 +116,6 @@ fn run_meeting<R: Threads + Wait + Sync>(
     inputs: &Inputs,
     meeting: &Meeting,
 ) -> Result<Arrays, AllocError>
-    requires points { made.now.points.of ≡ points_of made.now.nest }
-    requires numbers { FitsNumbers (net_of made.now.network) }
     requires sound { IsSound made.now.nest made.now.network }
     requires ends { EndsAll (net_of made.now.network) tags made.now.cert.schedule }
 {
@@ -150,8 +146,6 @@ fn gives_sum<R: Threads + Wait + Sync>(
     made: &Made,
     meeting: &Meeting,
 ) -> Result<bool, AllocError>
-    requires points { made.now.points.of ≡ points_of made.now.nest }
-    requires numbers { FitsNumbers (net_of made.now.network) }
     requires sound { IsSound made.now.nest made.now.network }
     requires ends { EndsAll (net_of made.now.network) tags made.now.cert.schedule }
 {

@@ -1,10 +1,7 @@
 //! Tests of `node_runner`: a process that runs alone over ends in memory makes the calls of its script.
-ghost use Rattle.std.specs.Prelude.{◌≡◌};
-ghost use Rattle.sanlp.specs.Points.{points_of};
 ghost use Rattle.net_core.specs.Machine.{net_of};
 ghost use Rattle.net_core.specs.Orders.{EndsAll};
 ghost use Rattle.net_core.specs.Rules.{tags};
-ghost use Rattle.net_core.specs.Shape.{FitsNumbers};
 ghost use Rattle.net_core.specs.Sound.{IsSound};
 
 use crate::alone::run_alone;
@@ -62,8 +59,6 @@ static ALONE: [Alone; 2] = [
 
 // Whether process 1 of a network keeps and calls this, where it runs alone.
 fn runs_alone(rt: &impl Wait, alloc: Global, made: &Made, row: &Alone) -> Result<bool, AllocError>
-    requires points { made.now.points.of ≡ points_of made.now.nest }
-    requires numbers { FitsNumbers (net_of made.now.network) }
     requires sound { IsSound made.now.nest made.now.network }
     requires ends { EndsAll (net_of made.now.network) tags made.now.cert.schedule }
 {
@@ -71,16 +66,7 @@ fn runs_alone(rt: &impl Wait, alloc: Global, made: &Made, row: &Alone) -> Result
         return Ok(false);
     }
     let inputs = inputs(alloc, row.inputs)?;
-    let ran = run_alone(
-        rt,
-        alloc,
-        &made.nest,
-        &made.points,
-        &inputs,
-        &made.network,
-        made.cert.schedule.as_slice(),
-        1,
-    );
+    let ran = run_alone(rt, alloc, made, &inputs, 1);
     drop(inputs);
     let (room, ends) = ran?;
     Ok(room.kept() == row.kept && ends.calls() == row.calls)

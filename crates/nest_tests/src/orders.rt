@@ -1,11 +1,8 @@
 //! Tests of networks that are run in several orders of events.
 ghost use Rattle.std.specs.Prelude.{◌≡◌, true, IfSome};
-ghost use Rattle.sanlp.specs.Points.{points_of};
-ghost use Rattle.sanlp.specs.Size.{SizeIsOk};
 ghost use Rattle.net_core.specs.Held.{held_of, run_of, IsFor};
 ghost use Rattle.net_core.specs.Machine.{net_of, enabled};
 ghost use Rattle.net_core.specs.Rules.{AllKeepTo, value_limits};
-ghost use Rattle.net_core.specs.Shape.{FitsNumbers};
 ghost use Rattle.net_core.specs.Sound.{IsSound};
 
 use crate::bound::{Made, has_list, inputs, is_accepted, make};
@@ -193,9 +190,7 @@ fn ran(
     order: Order,
     events: usize,
 ) -> Result<Option<u64>, AllocError>
-    requires points { made.now.points.of ≡ points_of made.now.nest }
-    requires numbers { FitsNumbers (net_of made.now.network) }
-    requires sound { IsSound made.now.nest made.now.network }
+    requires { IsSound made.now.nest made.now.network }
 {
     sound();
     let mut state = start(alloc, &made.network, &made.points)?;
@@ -220,9 +215,7 @@ fn all_ran(
     arrays: &Arrays,
     events: usize,
 ) -> Result<bool, AllocError>
-    requires points { made.now.points.of ≡ points_of made.now.nest }
-    requires numbers { FitsNumbers (net_of made.now.network) }
-    requires sound { IsSound made.now.nest made.now.network }
+    requires { IsSound made.now.nest made.now.network }
 {
     let mut marks = Vec::new(alloc);
     for order in &ORDERS {
@@ -239,10 +232,7 @@ fn all_ran(
 
 /// Whether a program's network has its number of events, the interpreter gives its output, and so do the runs in all orders.
 fn gives_output(alloc: Global, made: &Made, program: &Program) -> Result<bool, AllocError>
-    requires size { SizeIsOk made.now.nest }
-    requires points { made.now.points.of ≡ points_of made.now.nest }
-    requires numbers { FitsNumbers (net_of made.now.network) }
-    requires sound { IsSound made.now.nest made.now.network }
+    requires { IsSound made.now.nest made.now.network }
 {
     let inputs = inputs(alloc, program.inputs)?;
     let arrays = interpret(alloc, &made.nest, &inputs)?;
@@ -259,13 +249,7 @@ fn gives_output(alloc: Global, made: &Made, program: &Program) -> Result<bool, A
 fn every_order_gives_the_answer(rt: HostRuntime) -> Result<(), Fail> {
     for program in &PROGRAMS {
         let made = make(rt.alloc(), program.source, program.value, Policy::Seq)?;
-        let is_accepted = is_accepted(
-            rt.alloc(),
-            &made.nest,
-            &made.points,
-            &made.network,
-            &made.cert,
-        );
+        let is_accepted = is_accepted(rt.alloc(), &made);
         let gives_output = gives_output(rt.alloc(), &made, program);
         drop(made);
         assert!(rt; is_accepted? && gives_output?);

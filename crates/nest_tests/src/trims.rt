@@ -1,11 +1,9 @@
 //! Tests of `cap_trim::rest` and `cap_trim::trim`.
-ghost use Rattle.std.specs.Prelude.{◌≡◌, IsTrue};
-ghost use Rattle.sanlp.specs.Points.{points_of};
-ghost use Rattle.sanlp.specs.Size.{SizeIsOk};
+ghost use Rattle.std.specs.Prelude.{IsTrue};
 ghost use Rattle.net_core.specs.Machine.{net_of};
 ghost use Rattle.net_core.specs.Shape.{FitsNumbers};
 
-use crate::bound::{Made, is_accepted, make};
+use crate::bound::{Made, accepts, make};
 use cap_trim::{Trimmed, rest, trim};
 use net_core::Network;
 use plain_data::Items;
@@ -112,24 +110,18 @@ fn swept(alloc: Global) -> Result<Cert, AllocError> {
 }
 
 // Whether the checker accepts a network and that certificate.
-fn is_run(alloc: Global, made: &Made, network: &Network) -> Result<bool, AllocError>
-    requires size { SizeIsOk made.now.nest }
-    requires points { made.now.points.of ≡ points_of made.now.nest }
-{
+fn is_run(alloc: Global, made: &Made, network: &Network) -> Result<bool, AllocError> {
     if !numbers_fit(network) {
         return Ok(false);
     }
     let cert = swept(alloc)?;
-    let is_accepted = is_accepted(alloc, &made.nest, &made.points, network, &cert);
+    let is_accepted = accepts(alloc, made, network, &cert);
     drop(cert);
     is_accepted
 }
 
 // Whether the checker accepts the network with these capacities and that certificate.
-fn is_run_by(alloc: Global, made: &Made, capacities: &[u32]) -> Result<bool, AllocError>
-    requires size { SizeIsOk made.now.nest }
-    requires points { made.now.points.of ≡ points_of made.now.nest }
-{
+fn is_run_by(alloc: Global, made: &Made, capacities: &[u32]) -> Result<bool, AllocError> {
     let network = with_capacities(alloc, made.network.copy(alloc)?, capacities)?;
     let is_run = is_run(alloc, made, &network);
     drop(network);

@@ -48,7 +48,8 @@ same_fields (Put c) = refl
 -- an event is told by its kind and its fields
 abbrev pub event_code : Coded Event
 event_code =
-    code_by ((ℕ × ℕ) ⊎ (List Ref ⊎ ℕ)) (coded⊎ (coded× coded_ℕ coded_ℕ) (coded⊎ (coded_list ref_code) coded_ℕ))
+    code_by ((ℕ × ℕ) ⊎ (List Ref ⊎ ℕ))
+    (coded⊎ (coded× coded_ℕ coded_ℕ) (coded⊎ (coded_list ref_code) coded_ℕ))
     fields_of with_fields same_fields
 
 -- the set by which a network is wired in one way at most

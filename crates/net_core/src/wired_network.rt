@@ -4,7 +4,8 @@ ghost use Rattle.net_core.specs.Shape.{FitsNumbers, IsWired};
 
 use crate::network::Network;
 
-/// A network whose events name only what is there, and of which all numbers are below 2 ^ 32.
+/// A network whose scripts name only channels and slots that are there, each channel by its own reader or writer, with no Put
+/// before a process's first Fire. Its processes, its channels and the events of all its scripts are each fewer than 2 ^ 32.
 #[derive(Drop)]
 pub struct WiredNetwork<'a> {
     pub network: &'a Network,

@@ -17,24 +17,23 @@ use Rattle.net_core.specs.Machine.{Net, Rule, enabled, start, HasEnded, IsRun, I
 use Rattle.net_core.specs.Orders.{EndsAll, reached}
 use Rattle.net_core.specs.Shape.{IsWired}
 use Rattle.net_core.proofs.CutOrder.{enabled_stays_at}
+use Rattle.net_core.proofs.TwoSteps.{enabled_stays}
 use Rattle.net_core.proofs.Positions.{cut_inside, run_cut, start_counted}
 use Rattle.process_derive.proofs.Sums.{one_if-le}
 use Rattle.witness_plan.proofs.OtherCapacities.{wired_at}
 use Rattle.cap_trim.specs.Capacities.{with_room}
 use Rattle.clock_sim.specs.Clocks.{ClockedRunEnds, after_clocks, clocked_run, clocks}
-use Rattle.clock_sim.proofs.ClockRuns.{none_from_stuck}
+use Rattle.clock_sim.proofs.ClockRuns.{clocks_run, none_from_stuck}
 use Rattle.network_laws.specs.Stalls.{run_with_stalls, steps_of_clock}
 use Rattle.cap_trim.proofs.MoreRoom.{enabled_roomier, ends_roomier, run_roomier}
 use Rattle.network_laws.proofs.RunsWithStalls.{always, clocked_is_stalled, enabled_there, place, place_few, place_moved}
-use Rattle.network_laws.proofs.RunsWithStalls.{reached_at, reached_enabled, reached_run, stalled_cuts}
+use Rattle.network_laws.proofs.RunsWithStalls.{reached_at, reached_enabled, stalled_cuts}
 
 -- The clocked run itself
 
 module _ {T : Type 0} (n : Net) (rule : Rule T) (wired : IsWired n) where
   pub clocked_is_run : (k : ℕ) → IsRun n rule (start n) (clocked_run n rule k)
-  clocked_is_run k =
-      subst (λ (run : List ℕ). IsRun n rule (start n) run) (sym (clocked_is_stalled n rule k))
-      (reached_run n rule wired (run_with_stalls n rule always k) (stalled_cuts n rule wired always k))
+  clocked_is_run = clocks_run n rule (λ s p q other on. enabled_stays n rule wired s p q other on)
 
   pub clocked_cuts : (k : ℕ) → IsCutRun n opening (clocked_run n rule k)
   clocked_cuts k = run_cut n rule wired (clocked_run n rule k) (start n) (start_counted n) (clocked_is_run k)

@@ -1,10 +1,12 @@
 -- The sequencers of a network's units give the items of its ports.
 --
--- The automata and the units go together, in the order of the processes: the automaton of a process has its script for events. In a unit
--- the controls of its ports and its channels go together, so the one that is found for a channel gives that channel's items. By
--- induction over the statements from any number on, and over the channels of a process. Where nothing is found, a sequencer
+-- The automata and the units go together, in the order of the processes: the automaton of a process has its script
+-- for events. In a unit the controls of its ports and its channels go together, so the one that is found for a
+-- channel gives that channel's items. By induction over the statements from any number on (`given_at`), and over
+-- the channels of a process (`control_given`), for Gets and Puts alike. Where nothing is found, a sequencer
 -- without repeats gives the same. That one is found for each channel isn't said.
-use Rattle.std.proofs.Common.{◌≡◌, ℕ, zero, suc, ◌+◌, ◌==◌, cond, List, [], ◌∷◌, Some, map, slice_get, subst, sym, ap, ◌∙◌}
+use Rattle.std.proofs.Common.{◌≡◌, ℕ, zero, suc, ◌+◌, ◌==◌, Bool, cond, Option, List, [], ◌∷◌, Some, map, slice_get, subst, sym, ap}
+use Rattle.std.proofs.Common.{◌∙◌}
 use Rattle.std.proofs.Common.{inl, inr, arith}
 use Rattle.std.specs.List.{AllZip, enumerate_from, find}
 use Rattle.std.specs.Option.{option_map_or}
@@ -17,69 +19,68 @@ use Rattle.net_core.specs.Machine.{net_of}
 use Rattle.node_automata.specs.Automata.{automaton_of}
 use Rattle.node_automata.specs.declared.node.NodeAuto.{NodeAuto}
 use Rattle.repeat_sequencer.specs.declared.sequencer.Sequencer.{Sequencer}
+use Rattle.repeat_sequencer.specs.Instructions.{sequencer_of}
+use Rattle.repeat_sequencer.proofs.Given.{round}
 use Rattle.design_clocks.specs.Plain.{plain}
-use Rattle.port_items.specs.declared.items.GetItem.{GetItem}
-use Rattle.port_items.specs.declared.items.PutItem.{PutItem}
+use Rattle.design_clocks.proofs.Plain.{GivesOnce, gives_plain}
 use Rattle.port_items.specs.Items.{fire_items, port_gets, put_items}
 use Rattle.port_design.specs.Clocked.{GiveItems}
 use Rattle.port_text.specs.declared.unit.GetControl.{GetControl}
 use Rattle.port_text.specs.declared.unit.PortUnit.{PortUnit}
 use Rattle.port_text.specs.declared.unit.PutControl.{PutControl}
 use Rattle.port_text.specs.Units.{IsGetControlOf, IsPortUnitOf, IsPutControlOf}
+use Rattle.unit_text.specs.Units.{IsSequencerOf}
 use Rattle.port_rtl.specs.Controls.{get_sequencer, port_controls, put_sequencer}
 use Rattle.port_rtl.specs.Designs.{ArePortUnitsOf}
-use Rattle.port_rtl.proofs.Plain.{GivesOnce, gives_items, gives_plain}
+
+-- a sequencer of blocks that stand for a list gives this
+module _ {T : Type 0} where
+  gives_items : (items : List T) (s : Sequencer T) → IsSequencerOf items s → GivesOnce items s
+  gives_items items s is =
+      subst (λ (s : Sequencer T). GivesOnce items s) (sym is.sequencer_is)
+      (subst (λ (xs : List T). GivesOnce xs (sequencer_of is.blocks)) is.stands (round is.blocks is.proper))
+
+-- of the controls of some channels the one found for a channel gives its items, and a plain sequencer does where none is found
+module _ {C T : Type 0} (channel_of : C → ℕ) (sequencer : C → Sequencer T) (items : ℕ → List T) (Is : ℕ → C → Type 0)
+    (own : (d : ℕ) (x : C) → Is d x → (channel_of x ≡ d) × IsSequencerOf (items d) (sequencer x)) (c : ℕ) where
+  abbrev of_channel : C → Bool
+  of_channel x = channel_of x == c
+
+  abbrev chosen : Option C → Sequencer T
+  chosen = λ o. option_map_or sequencer o (plain (items c))
+
+  control_given : (channels : List ℕ) (controls : List C) → AllZip Is channels controls
+      → GivesOnce (items c) (chosen (find of_channel controls))
+  control_given [] [] are = gives_plain (items c)
+  control_given [] (x ∷ controls) are = absurd are
+  control_given (d ∷ channels) [] are = absurd are
+  control_given (d ∷ channels) (x ∷ controls) are =
+      let mine = own d x are.0 in
+      elim (cases_Bool (of_channel x)) [
+        | inl on ↦
+            let here : find of_channel (x ∷ controls) ≡ Some x =
+            ap (λ b. cond b (Some x) (find of_channel controls)) on in
+            let same : d ≡ c = sym mine.0 ∙ eqb-true (channel_of x) c on in
+            subst (λ o. GivesOnce (items c) (chosen o)) (sym here)
+            (subst (λ e. GivesOnce (items e) (sequencer x)) same (gives_items (items d) (sequencer x) mine.1))
+        | inr off ↦
+            let later : find of_channel (x ∷ controls) ≡ find of_channel controls =
+            ap (λ b. cond b (Some x) (find of_channel controls)) off in
+            subst (λ o. GivesOnce (items c) (chosen o)) (sym later) (control_given channels controls are.1)
+      ]
 
 module _ (script : List Event) (c : ℕ) where
-  abbrev gets : List GetItem
-  gets = port_gets c script
-
-  abbrev puts : List PutItem
-  puts = put_items c script
-
   get_given : (channels : List ℕ) (controls : List GetControl) → AllZip (IsGetControlOf script) channels controls
-      → GivesOnce gets (get_sequencer controls c (plain gets))
-  get_given [] [] are = gives_plain gets
-  get_given [] (x ∷ controls) are = absurd are
-  get_given (d ∷ channels) [] are = absurd are
-  get_given (d ∷ channels) (x ∷ controls) are =
-      elim (cases_Bool (x.channel == c)) [
-        | inl on ↦
-            let here : find (λ (x : GetControl). x.channel == c) (x ∷ controls) ≡ Some x =
-            ap (λ b. cond b (Some x) (find (λ (x : GetControl). x.channel == c) controls)) on in
-            let same : d ≡ c = sym are.0.channel_is ∙ eqb-true x.channel c on in
-            subst (λ o. GivesOnce gets (option_map_or (λ (x : GetControl). x.items) o (plain gets))) (sym here)
-            (subst (λ e. GivesOnce (port_gets e script) x.items) same
-            (gives_items (port_gets d script) x.items are.0.items_are))
-        | inr off ↦
-            let later : find (λ (x : GetControl). x.channel == c) (x ∷ controls)
-            ≡ find (λ (x : GetControl). x.channel == c) controls =
-            ap (λ b. cond b (Some x) (find (λ (x : GetControl). x.channel == c) controls)) off in
-            subst (λ o. GivesOnce gets (option_map_or (λ (x : GetControl). x.items) o (plain gets))) (sym later)
-            (get_given channels controls are.1)
-      ]
+      → GivesOnce (port_gets c script) (get_sequencer controls c (plain (port_gets c script)))
+  get_given =
+      control_given (λ (x : GetControl). x.channel) (λ x. x.items) (λ d. port_gets d script) (IsGetControlOf script)
+      (λ d x is. (is.channel_is, is.items_are)) c
 
   put_given : (channels : List ℕ) (controls : List PutControl) → AllZip (IsPutControlOf script) channels controls
-      → GivesOnce puts (put_sequencer controls c (plain puts))
-  put_given [] [] are = gives_plain puts
-  put_given [] (x ∷ controls) are = absurd are
-  put_given (d ∷ channels) [] are = absurd are
-  put_given (d ∷ channels) (x ∷ controls) are =
-      elim (cases_Bool (x.channel == c)) [
-        | inl on ↦
-            let here : find (λ (x : PutControl). x.channel == c) (x ∷ controls) ≡ Some x =
-            ap (λ b. cond b (Some x) (find (λ (x : PutControl). x.channel == c) controls)) on in
-            let same : d ≡ c = sym are.0.channel_is ∙ eqb-true x.channel c on in
-            subst (λ o. GivesOnce puts (option_map_or (λ (x : PutControl). x.items) o (plain puts))) (sym here)
-            (subst (λ e. GivesOnce (put_items e script) x.items) same
-            (gives_items (put_items d script) x.items are.0.items_are))
-        | inr off ↦
-            let later : find (λ (x : PutControl). x.channel == c) (x ∷ controls)
-            ≡ find (λ (x : PutControl). x.channel == c) controls =
-            ap (λ b. cond b (Some x) (find (λ (x : PutControl). x.channel == c) controls)) off in
-            subst (λ o. GivesOnce puts (option_map_or (λ (x : PutControl). x.items) o (plain puts))) (sym later)
-            (put_given channels controls are.1)
-      ]
+      → GivesOnce (put_items c script) (put_sequencer controls c (plain (put_items c script)))
+  put_given =
+      control_given (λ (x : PutControl). x.channel) (λ x. x.items) (λ d. put_items d script) (IsPutControlOf script)
+      (λ d x is. (is.channel_is, is.items_are)) c
 
 module _ (nest : Nest) (network : Network) where
   abbrev made : ℕ → List Statement → List NodeAuto

@@ -4,16 +4,12 @@
 -- the Fires and the Gets the code stands at the state after all events of the clock, and it has found some exactly
 -- where the clock has some (`clock_done`). A clock with events is before the last one (`clock_before`), so the
 -- code counts no clock too many. Which events a part has isn't a matter of this file.
-use Rattle.std.proofs.Common.{◌≡◌, ◌<◌, ◌≤◌, ℕ, Bool, true, false, not, ◌||◌, length, ap, sym}
+use Rattle.std.proofs.Common.{◌≡◌, ◌<◌, ◌≤◌, ℕ, Bool, true, not, ◌||◌, length, ap, sym}
 use Rattle.std.proofs.Common.{subst, ◌∙◌, inl, inr, arith}
-use Rattle.std.specs.List.{range_with_len}
-use Rattle.std.proofs.lemmas.Bool.{both_ways, cases_lt, eq-eqb, ne_eqb, not_from_false, not_from_true}
-use Rattle.std.proofs.lemmas.List.FromFn.{length-range_with_len}
-use Rattle.std.proofs.lemmas.List.Sums.{prefix_len-le-length}
+use Rattle.std.proofs.lemmas.Bool.{both_ways, cases_lt, eq-eqb, not_from_true}
 use Rattle.sanlp.specs.declared.nest.Tag.{Tag}
 use Rattle.net_core.specs.Machine.{Net}
 use Rattle.net_core.specs.Rules.{tags}
-use Rattle.net_core.specs.Shape.{events_below}
 use Rattle.port_runs.specs.Ports.{PortState, port_after}
 use Rattle.port_clocks.specs.PortClocks.{PortClocksEnd, after_port_clocks, after_fires, events_of_clock}
 use Rattle.port_clocks.specs.PortClocks.{fires_of_clock, gets_of_clock, is_still_after, port_clocks, puts_of_clock}
@@ -37,17 +33,6 @@ clock_done n s ports ports' puts fires gets at some_puts some_fires last = (
       ∙ any_of (puts_of_clock n s) (fires_of_clock n tags s) (gets_of_clock n tags s),
 )
 
--- no more clocks than events
-pub clocks_short : (n : Net) → port_clocks n ≤ events_below n n.processes
-unfolding port_clocks
-clocks_short n =
-    let numbers = range_with_len 0 (events_below n n.processes) in
-    omega (
-      arith,
-      prefix_len-le-length (λ k. not (is_still_after n k)) numbers,
-      length-range_with_len 0 (events_below n n.processes),
-    )
-
 -- a clock with events is before the last
 pub clock_before : (n : Net) → PortClocksEnd n tags → (k : ℕ) → k ≤ port_clocks n
     → not (is_still_after n k) ≡ true → k < port_clocks n
@@ -61,17 +46,4 @@ clock_before n ends k few some =
           (ap length ends.still) in
           absurd (both_ways (not (is_still_after n k))
           (not_from_true (is_still_after n k) (ap (is_still_after n) last ∙ still)) some)
-    ]
-
--- a clock without events is the last
-pub clock_last : (n : Net) → PortClocksEnd n tags → (k : ℕ) → k ≤ port_clocks n
-    → not (is_still_after n k) ≡ false → k ≡ port_clocks n
-clock_last n ends k few none =
-    elim (cases_lt k (port_clocks n)) [
-      | inl lt ↦
-          let some = ends.events k lt in
-          let other : is_still_after n k ≡ false =
-          ne_eqb (length (events_of_clock n tags (after_port_clocks n tags k))) 0 (λ e. omega (arith, some, e)) in
-          absurd (both_ways (not (is_still_after n k)) none (not_from_false (is_still_after n k) other))
-      | inr ge ↦ omega arith
     ]

@@ -7,7 +7,7 @@
 -- places outside the window nothing is said.
 use Rattle.std.proofs.Common.{◌≡◌, ℕ, ◌+◌, Bool, true, false, not, ◌&&◌, Some, slice_get, ap, ◌∙◌}
 use Rattle.std.specs.Option.{option_map_or}
-use Rattle.std.proofs.lemmas.Bool.{and_left, and_right, not_from_false, not_from_true}
+use Rattle.std.proofs.lemmas.Bool.{and_left, and_right, not_from_false}
 use Rattle.sanlp.specs.declared.nest.Tag.{Tag}
 use Rattle.net_core.specs.declared.network.Event.{Event}
 use Rattle.net_core.specs.Machine.{Net, can_come}
@@ -38,12 +38,6 @@ module _ (n : Net) (s : PortState Tag) (p : ℕ) (w : Window) (is : IsWindow (n.
 
     may_is : may_come_at n s (p, place) ≡ (not (s.has_come p place) && (due && can))
     may_is = ap (may_come n s (p, place)) this
-
-    pub may_not_again : x.has_come ≡ true → may_come_at n s (p, place) ≡ false
-    may_not_again on =
-        may_is
-        ∙ and_left (not (s.has_come p place)) (due && can)
-        (not_from_true (s.has_come p place) ((window_here at x read).1 ∙ on))
 
     pub may_not_yet : due ≡ false → may_come_at n s (p, place) ≡ false
     may_not_yet off = may_is ∙ and_right (not (s.has_come p place)) (due && can) (and_left due can off)

@@ -10,7 +10,7 @@ use Rattle.std.proofs.Common.{subst, ◌∙◌, refl, inl, inr, arith, ltb-true,
 use Rattle.std.proofs.Common.{length-take}
 use Rattle.std.proofs.lemmas.Bool.{both_ways, cases_eq, cases_lt, cond-true, cond-false}
 use Rattle.std.proofs.lemmas.List.Sums.{count_by-le-length}
-use Rattle.std.proofs.lemmas.Option.{slice_get_within, get_or_from_slice_get}
+use Rattle.std.proofs.lemmas.Option.{get_or_from_slice_get, same_Some, slice_get_read, slice_get_within}
 use Rattle.sanlp.specs.declared.nest.Tag.{Tag}
 use Rattle.net_core.specs.declared.network.Event.{Event}
 use Rattle.net_core.specs.declared.network.Event.TheVariants.{Get, Fire, Put}
@@ -30,8 +30,14 @@ use Rattle.port_sim.specs.declared.window.Window.{Window}
 use Rattle.port_sim.specs.Windows.{CanCount, HasChannel, IsAt, IsWindow, queued_after}
 use Rattle.port_clocks.proofs.PortParts.{port_after_append, port_run_append}
 use Rattle.port_sim.proofs.Rounds.{not_behind}
-use Rattle.port_sim.proofs.WindowEvents.{get_set_here}
-use Rattle.plain_data.proofs.Lists.{slice_get-set_other, slice_get-some}
+use Rattle.plain_data.proofs.Lists.{slice_get-set_other, slice_get-set_same}
+
+-- a place of a process's script is in its window, whose numbers fit
+pub record AtWindow (p k : ℕ) (windows : List Window) (w : Window) : Type 0 where
+  pub held : slice_get windows p ≡ Some w
+  pub first : w.first ≤ k
+  pub within : k < w.first + length w.events.items
+  pub small : w.first + length w.events.items < 2 ^ 32
 
 module _ (n : Net) (s : PortState Tag) (ports : Ports) (at : IsAt n s ports) where
   pub counted : PortCounted n s
@@ -52,11 +58,11 @@ module _ (n : Net) (s : PortState Tag) (ports : Ports) (at : IsAt n s ports) whe
 
   module _ (p k : ℕ) (c : Coming n s p k) where
     -- its process has a window
-    pub process_held : p < length ports.windows.items
+    process_held : p < length ports.windows.items
     process_held = omega (arith, at.number, process_there n at.wired p k c.event c.is)
 
     -- the event is in the window
-    pub in_window : (w : Window) → slice_get ports.windows.items p ≡ Some w
+    in_window : (w : Window) → slice_get ports.windows.items p ≡ Some w
         → (w.first ≤ k) × (k < w.first + length w.events.items)
     in_window w held =
         let is = at.windows p w held in (
@@ -70,6 +76,13 @@ module _ (n : Net) (s : PortState Tag) (ports : Ports) (at : IsAt n s ports) whe
                 absurd (both_ways _ (not_behind (n.script p) (s.has_come p) w is k c.event past c.is) c.due)
           ],
         )
+
+    -- what is known of the window, as it is read
+    pub read_window : (w : Window) → w ≡ get_or ports.windows.items p w → AtWindow p k ports.windows.items w
+    read_window w is =
+        let held = slice_get_read ports.windows.items (length ports.windows.items) p w refl process_held is in
+        let both = in_window w held in
+        record { held = held; first = both.0; within = both.1; small = window_small p w held }
 
     -- how many tokens a channel holds
     queue_is : (ch : ℕ) → ch < n.channels → get_or ports.queued.items ch 0 ≡ length (s.run.queue ch)
@@ -137,12 +150,9 @@ module _ (n : Net) (s : PortState Tag) (ports : Ports) (at : IsAt n s ports) whe
     at_set ch d x m there here else =
         elim (cases_eq ch d) [
           | inl same ↦
-              let inside : ch < length (slice_set ports.queued.items d x) =
-              omega (arith, there, at.queues.number, length-set ports.queued.items d x) in
-              let y = slice_get-some (slice_set ports.queued.items d x) ch inside in
-              let read : slice_get (slice_set ports.queued.items d x) d ≡ Some y.0 =
-              ap (slice_get (slice_set ports.queued.items d x)) (sym same) ∙ y.1 in
-              y.1 ∙ ap Some (get_set_here ports.queued.items d x y.0 read ∙ here same)
+              let inside : d < length ports.queued.items = omega (arith, there, at.queues.number, same) in
+              ap (slice_get (slice_set ports.queued.items d x)) same ∙ slice_get-set_same ports.queued.items d x inside
+              ∙ ap Some (here same)
           | inr d' ↦
               slice_get-set_other ports.queued.items d ch x d' ∙ at.queues.lengths ch there ∙ ap Some (else d')
         ]
@@ -188,7 +198,8 @@ module _ (n : Net) (s : PortState Tag) (ports : Ports) (at : IsAt n s ports) whe
             | inl same ↦
                 let read' : slice_get (slice_set ports.windows.items p w') p ≡ Some u =
                 ap (slice_get (slice_set ports.windows.items p w')) (sym same) ∙ set_read in
-                let this : u ≡ w' = get_set_here ports.windows.items p w' u read' in
+                let inside = slice_get_within ports.windows.items p w held in
+                let this : u ≡ w' = same_Some u w' (sym read' ∙ slice_get-set_same ports.windows.items p w' inside) in
                 let come : next.has_come p ≡ replaced (s.has_come p) k true =
                 replaced_same s.has_come p (replaced (s.has_come p) k true) p refl in
                 subst (λ r. IsWindow (n.script r) (next.has_come r) u) (sym same)

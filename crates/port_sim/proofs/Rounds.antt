@@ -6,11 +6,11 @@
 -- end, which hasn't come, so none of them is due (`not_behind`). Which events of the window itself are due isn't
 -- told here.
 use Rattle.std.proofs.Common.{◌≡◌, ℕ, zero, suc, ◌+◌, ◌<◌, ◌≤◌, Bool, true, false, Some, List, [], ◌∷◌}
-use Rattle.std.proofs.Common.{cond, length, drop, slice_get, option_map, ap, sym, ◌∙◌, refl, arith, suc-add}
-use Rattle.std.proofs.Common.{zero-add, length-drop}
+use Rattle.std.proofs.Common.{cond, length, drop, slice_get, option_map, ap, sym, ◌∙◌, refl, arith}
+use Rattle.std.proofs.Common.{length-drop}
 use Rattle.std.proofs.lemmas.Bool.{both_ways, false_from_ne_true}
-use Rattle.std.proofs.lemmas.List.{length-map}
-use Rattle.std.proofs.lemmas.Option.{slice_get-map, slice_get_within}
+use Rattle.std.proofs.lemmas.List.{get_or-drop, length-map}
+use Rattle.std.proofs.lemmas.Option.{get_or_from_slice_get, slice_get-map, slice_get_read, slice_get_within}
 use Rattle.net_core.specs.declared.network.Event.{Event}
 use Rattle.net_core.specs.Shape.{is_fire}
 use Rattle.port_runs.specs.Ports.{is_due}
@@ -19,11 +19,6 @@ use Rattle.port_sim.specs.declared.window.Pending.{Pending}
 use Rattle.port_sim.specs.declared.window.Window.{Window}
 use Rattle.port_sim.specs.Windows.{IsWindow, round}
 use Rattle.plain_data.proofs.Lists.{slice_get-some}
-
-pub get_drop : {X : Type 0} (k : ℕ) (xs : List X) (i : ℕ) → slice_get (drop k xs) i ≡ slice_get xs (k + i)
-get_drop zero xs i = ap (slice_get xs) (sym (zero-add i))
-get_drop (suc k) [] i = refl
-get_drop (suc k) (x ∷ xs) i = get_drop k xs i ∙ ap (slice_get (x ∷ xs)) (sym (suc-add k i))
 
 round_at : (b : Bool) (x : Event) (xs : List Event) (i : ℕ) (e : Event)
     → ((i : ℕ) (e : Event) → slice_get (round xs) i ≡ Some e → slice_get xs i ≡ Some e)
@@ -95,13 +90,15 @@ module _ (script : List Event) (come : ℕ → Bool) (w : Window) (is : IsWindow
   pub event_here : (i : ℕ) (x : Pending) → slice_get w.events.items i ≡ Some x
       → slice_get script (w.first + i) ≡ Some x.event
   event_here i x at =
-      sym (get_drop w.first script i) ∙ round_get (drop w.first script) i x.event (event_in i x at)
+      let behind = drop w.first script in
+      let read = round_get behind i x.event (event_in i x at) in
+      let inside = slice_get_within behind i x.event read in
+      slice_get_read script (length script) (w.first + i) x.event refl
+      (omega (arith, inside, length-drop w.first script))
+      (sym (get_or_from_slice_get behind i x.event x.event read) ∙ get_or-drop w.first script i x.event)
 
-  pub long : length w.events.items ≡ length (round (drop w.first script))
+  long : length w.events.items ≡ length (round (drop w.first script))
   long = sym (length-map w.events.items (λ (y : Pending). y.event)) ∙ ap length is.events
-
-  pub inside : w.first ≤ length script → w.first + length w.events.items ≤ length script
-  inside le = omega (arith, le, long, round_short (drop w.first script), length-drop w.first script)
 
   -- a fire is the window's last event
   pub fire_last : (i : ℕ) (x : Pending) → slice_get w.events.items i ≡ Some x → is_fire x.event ≡ true

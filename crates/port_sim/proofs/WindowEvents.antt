@@ -5,11 +5,12 @@
 -- was left of the script, and nothing in that one has come (`after_fire`). Any other event is noted in its place
 -- as one that has come (`after_other`). Whether the event might come is a premise.
 use Rattle.std.proofs.Common.{◌≡◌, ℕ, zero, suc, ◌+◌, ◌-◌, ◌<◌, ◌≤◌, Bool, true, false, Some, List, [], ◌∷◌}
-use Rattle.std.proofs.Common.{length, map, drop, slice_get, slice_set, option_map, ap, sym, ◌∙◌, refl, inl, inr, arith}
+use Rattle.std.proofs.Common.{length, map, drop, slice_get, slice_set, ap, sym, ◌∙◌, refl, inl, inr, arith}
 use Rattle.std.proofs.Common.{length-drop, length-set}
 use Rattle.std.proofs.lemmas.Bool.{both_ways, cases_eq, cases_lt}
-use Rattle.std.proofs.lemmas.List.{drop-drop, length-map, map-set}
-use Rattle.std.proofs.lemmas.Option.{slice_get-map, slice_get_within}
+use Rattle.std.proofs.Math.Seq.{map-set_same}
+use Rattle.std.proofs.lemmas.List.{drop-drop, length-map}
+use Rattle.std.proofs.lemmas.Option.{get_or_from_slice_get, same_Some, slice_get_within}
 use Rattle.net_core.specs.declared.network.Event.{Event}
 use Rattle.net_core.specs.Machine.{replaced}
 use Rattle.net_core.specs.Shape.{is_fire}
@@ -20,19 +21,9 @@ use Rattle.port_sim.specs.declared.window.Pending.{Pending}
 use Rattle.port_sim.specs.declared.window.Window.{Window}
 use Rattle.port_sim.specs.Windows.{IsWindow, round, waiting}
 use Rattle.port_sim.proofs.Rounds.{event_here, fire_last, round_short}
-use Rattle.plain_data.proofs.Lists.{slice_get-set_other, slice_get-some}
+use Rattle.plain_data.proofs.Lists.{slice_get-set_other, slice_get-set_same, slice_get-some}
 
--- Lists
-
-set_same : {X : Type 0} (xs : List X) (i : ℕ) (x : X) → slice_get xs i ≡ Some x → slice_set xs i x ≡ xs
-set_same [] i x at = refl
-set_same (y ∷ xs) zero x at = let same : y ≡ x = cc in ap (λ z. z ∷ xs) (sym same)
-set_same (y ∷ xs) (suc i) x at = ap (λ zs. y ∷ zs) (set_same xs i x at)
-
-pub get_set_here : {X : Type 0} (xs : List X) (i : ℕ) (x y : X) → slice_get (slice_set xs i x) i ≡ Some y → y ≡ x
-get_set_here [] i x y at = absurd (cc)
-get_set_here (z ∷ xs) zero x y at = let same : x ≡ y = cc in sym same
-get_set_here (z ∷ xs) (suc i) x y at = get_set_here xs i x y at
+-- Events that wait
 
 pub waiting_events : (es : List Event) → map (λ (x : Pending). x.event) (map waiting es) ≡ es
 waiting_events [] = refl
@@ -134,18 +125,20 @@ module _ (script : List Event) (come : ℕ → Bool) (w w' : Window) (at place :
       let many : length w'.events.items ≡ length w.events.items =
       ap length events ∙ length-set w.events.items at done in
       let event_of : Pending → Event = λ y. y.event in
-      let kept : slice_get (map event_of w.events.items) at ≡ Some x.event =
-      slice_get-map event_of w.events.items at ∙ ap (option_map event_of) found in
+      let inside : at < length w.events.items = slice_get_within w.events.items at x found in
       let mine : (y : Pending) → slice_get w'.events.items at ≡ Some y → y ≡ done =
-      λ y read. get_set_here w.events.items at done y (ap (λ (l : List Pending). slice_get l at) (sym events) ∙ read) in
+      λ y read.
+      same_Some y done
+      (sym read ∙ ap (λ (l : List Pending). slice_get l at) events ∙ slice_get-set_same w.events.items at done inside) in
       let others : (i : ℕ) (y : Pending) → (i ≡ at → ⊥) → slice_get w'.events.items i ≡ Some y
       → slice_get w.events.items i ≡ Some y =
       λ i y d read.
       sym (slice_get-set_other w.events.items at i done d) ∙ ap (λ (l : List Pending). slice_get l i) (sym events)
       ∙ read in
       record {
-        events = ap (map event_of) events ∙ map-set event_of w.events.items at done
-            ∙ set_same (map event_of w.events.items) at x.event kept
+        events = ap (map event_of) events
+            ∙ map-set_same event_of w.events.items at done x
+            (ap event_of (sym (get_or_from_slice_get w.events.items at x x found)))
             ∙ is.events ∙ ap (λ m. round (drop m script)) (sym first);
         rest =
             let sum : w.first + length w.events.items ≡ w'.first + length w'.events.items =
@@ -167,7 +160,6 @@ module _ (script : List Event) (come : ℕ → Bool) (w w' : Window) (at place :
                   ∙ is.here i y (others i y d read)
             ];
         behind = λ k le.
-            let inside : at < length w.events.items = slice_get_within w.events.items at x found in
             there k (λ same. omega (arith, same, le, first, many, here, inside))
             ∙ is.behind k (omega (arith, le, first, many));
         fire = λ i y read on.

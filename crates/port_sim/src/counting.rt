@@ -2,14 +2,13 @@ ghost use Rattle.std.specs.Prelude.{◌≡◌, ◌==◌, ◌<◌, ◌||◌, ℕ,
 ghost use Rattle.sanlp.specs.declared.nest.Tag.{Tag};
 ghost use Rattle.net_core.specs.Machine.{net_of};
 ghost use Rattle.net_core.specs.Rules.{tags};
-ghost use Rattle.net_core.specs.Shape.{FitsNumbers, IsWired};
 ghost use Rattle.port_runs.specs.Ports.{PortState, port_after};
 ghost use Rattle.port_clocks.specs.PortClocks.{PortClocksEnd, events_of_clock, port_clocks};
 ghost use Rattle.port_sim.specs.Windows.{IsAt, IsReached};
 
 use crate::ports::{EventIndex, Ports, make_part};
 use crate::window::Kind;
-use net_core::Network;
+use net_core::{Network, WiredNetwork};
 use std::alloc::{AllocError, Global};
 
 // Whether any part of a clock has events.
@@ -45,13 +44,12 @@ fn make_clock(
 /// The number of clocks that a network takes whose ports go each at its own pace: at each clock each port makes at most one event and
 /// each process fires at most once, until no event comes. Nothing is refused but want of memory. It takes the time of all events, and
 /// at each clock of one look at the events of each process up to its next fire.
-pub fn clock_count(alloc: Global, network: &Network) -> Result<u64, AllocError>
-    requires wired { IsWired (net_of network.now) }
-    requires numbers { FitsNumbers (net_of network.now) }
-    requires ends { PortClocksEnd (net_of network.now) tags }
-    ensures { IfOk result (λ clocks. clocks ≡ port_clocks (net_of network.now)) }
+pub fn clock_count(alloc: Global, wired: &WiredNetwork) -> Result<u64, AllocError>
+    requires { PortClocksEnd (net_of wired.now.network.now) tags }
+    ensures { IfOk result (λ clocks. clocks ≡ port_clocks (net_of wired.now.network.now)) }
 {
-    let mut ports = Ports::new(alloc, network)?;
+    let network = wired.network;
+    let mut ports = Ports::new(alloc, wired)?;
     let mut before = vec![in alloc; 0; network.channels.len()]?;
     let mut list = Vec::new(alloc);
     let mut clocks = 0;

@@ -4,7 +4,6 @@ ghost use Rattle.sanlp.specs.declared.nest.Tag.{Tag};
 ghost use Rattle.net_core.specs.declared.network.Process.{Process};
 ghost use Rattle.net_core.specs.Machine.{net_of, can_come};
 ghost use Rattle.net_core.specs.Rules.{tags};
-ghost use Rattle.net_core.specs.Shape.{FitsNumbers, IsWired};
 ghost use Rattle.port_runs.specs.Ports.{IsPortRun, PortState, may_come_at, port_after, port_start, port_step};
 ghost use Rattle.port_sim.specs.declared.window.Pending.{Pending};
 ghost use Rattle.port_sim.specs.declared.window.Window.{Window};
@@ -12,7 +11,7 @@ ghost use Rattle.port_clocks.specs.PortClocks.{comes, part_of_clock, places_of};
 ghost use Rattle.port_sim.specs.Windows.{CanCount, HasChannel, HasQueues, IsAt, IsReached, IsWindow, is_of_kind, place_of, queued_after};
 
 use crate::window::{Kind, Window, is_due, is_of_kind, take_round};
-use net_core::{Event, Network, Process};
+use net_core::{Event, Network, Process, WiredNetwork};
 use script_blocks::ScriptCursor;
 use std::alloc::{AllocError, Global};
 
@@ -244,11 +243,11 @@ fn first_windows(alloc: Global, processes: &[Process]) -> Result<Vec<Window>, Al
 
 impl Ports {
     /// No event has come.
-    pub(crate) fn new(alloc: Global, network: &Network) -> Result<Ports, AllocError>
-        requires wired { IsWired (net_of network.now) }
-        requires numbers { FitsNumbers (net_of network.now) }
-        ensures { IfOk result (IsAt (net_of network.now) (port_start (net_of network.now))) }
+    pub(crate) fn new(alloc: Global, wired: &WiredNetwork) -> Result<Ports, AllocError>
+        ensures { IfOk result (IsAt (net_of wired.now.network.now)
+            (port_start (net_of wired.now.network.now))) }
     {
+        let network = wired.network;
         Ok(Ports {
             windows: first_windows(alloc, network.processes.as_slice())?,
             queued: vec![in alloc; 0; network.channels.len()]?,

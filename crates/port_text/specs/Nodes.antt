@@ -14,8 +14,8 @@ use Rattle.unit_text.specs.declared.node.RolePart.TheVariants as roles
 use Rattle.unit_text.specs.Nodes.{entity_text, fire_lines, loops_text, node_end, node_types, process_head, reset_lines, role_text, slot_signals}
 use Rattle.port_text.specs.declared.node.ReadPart.{ReadPart}
 use Rattle.port_text.specs.declared.node.ReadPart.TheVariants as reads
-use Rattle.port_text.specs.declared.ports.GetPart.TheVariants as gets
-use Rattle.port_text.specs.declared.ports.PutPart.TheVariants as puts
+use Rattle.port_text.specs.declared.ports.PortPart.{PortPart}
+use Rattle.port_text.specs.declared.ports.PortPart.TheVariants as parts
 use Rattle.port_text.specs.declared.unit.PortUnit.{PortUnit}
 use Rattle.port_text.specs.Ports.{gets_text, puts_text}
 use Rattle.port_text.specs.Tables.{read_table}
@@ -31,6 +31,11 @@ read_text reads.Line unit k =
 
 abbrev pub reads_text : ReadPart → PortUnit → List ℕ
 reads_text part unit = flat_map (read_text part unit) (range_with_len 0 unit.unit.auto.reads)
+
+-- what a node has for each port at which the process gets, and then for each at which it puts
+abbrev pub ports_text : PortPart → PortUnit → List ℕ
+ports_text part unit =
+    gets_text part unit.unit.auto.process unit.gets ++ puts_text part unit.unit.auto.process unit.puts
 
 -- A source fires when a value is there, and a sink when its last value was taken, or is taken at the same edge.
 abbrev pub role_lines : Role → List ℕ
@@ -58,15 +63,13 @@ fire_signals count = with_number count (
 abbrev pub may_fire_line : PortUnit → List ℕ
 may_fire_line unit = concat (
     codes "  may_fire <= '1' when pc /= " ∷ decimal (length unit.fires.instructions) ∷ codes "\n"
-    ∷ gets_text gets.MayFire unit.unit.auto.process unit.gets
-    ∷ puts_text puts.MayFire unit.unit.auto.process unit.puts ∷ codes "    else '0';\n" ∷ [])
+    ∷ ports_text parts.MayFire unit ∷ codes "    else '0';\n" ∷ [])
 
 -- it is done where its fires and each port are at their end, and no value waits for room
 abbrev pub done_line : PortUnit → List ℕ
 done_line unit = concat (
     codes "  done <= '1' when pc = " ∷ decimal (length unit.fires.instructions) ∷ codes "\n"
-    ∷ gets_text gets.Done unit.unit.auto.process unit.gets
-    ∷ puts_text puts.Done unit.unit.auto.process unit.puts ∷ codes "    else '0';\n" ∷ [])
+    ∷ ports_text parts.Done unit ∷ codes "    else '0';\n" ∷ [])
 
 -- The node of a process
 
@@ -74,22 +77,19 @@ done_line unit = concat (
 abbrev pub entities_text : PortUnit → List ℕ
 entities_text unit = concat (
     sequencer_text (names.Fires unit.unit.auto.process) unit.fires
-    ∷ gets_text gets.Entity unit.unit.auto.process unit.gets
-    ∷ puts_text puts.Entity unit.unit.auto.process unit.puts
+    ∷ ports_text parts.Entity unit
     ∷ loops_text loops.Entity unit.unit ∷ [])
 
 abbrev pub constants_text : PortUnit → List ℕ
 constants_text unit = concat (
     node_types unit.unit.auto.process
-    ∷ gets_text gets.Tables unit.unit.auto.process unit.gets
-    ∷ puts_text puts.Tables unit.unit.auto.process unit.puts
+    ∷ ports_text parts.Tables unit
     ∷ reads_text reads.Table unit ∷ loops_text loops.Table unit.unit ∷ [])
 
 abbrev pub signals_text : PortUnit → List ℕ
 signals_text unit = concat (
     fire_signals (length unit.fires.instructions)
-    ∷ gets_text gets.Signals unit.unit.auto.process unit.gets
-    ∷ puts_text puts.Signals unit.unit.auto.process unit.puts
+    ∷ ports_text parts.Signals unit
     ∷ reads_text reads.Signal unit ∷ loops_text loops.Signals unit.unit
     ∷ slot_signals unit.unit.auto.slots ∷ role_text roles.Signal unit.unit.auto.role
     ∷ functions_text ∷ [])
@@ -97,24 +97,21 @@ signals_text unit = concat (
 abbrev pub sequencers_text : PortUnit → List ℕ
 sequencers_text unit = concat (
     fire_sequencer unit.unit.auto.process
-    ∷ gets_text gets.Sequencer unit.unit.auto.process unit.gets
-    ∷ puts_text puts.Sequencer unit.unit.auto.process unit.puts
+    ∷ ports_text parts.Sequencer unit
     ∷ loops_text loops.Part unit.unit ∷ [])
 
 abbrev pub wiring_text : PortUnit → List ℕ
 wiring_text unit = concat (
     sequencers_text unit
     ∷ reads_text reads.Line unit
-    ∷ gets_text gets.Lines unit.unit.auto.process unit.gets
-    ∷ puts_text puts.Lines unit.unit.auto.process unit.puts
+    ∷ ports_text parts.Lines unit
     ∷ may_fire_line unit ∷ role_lines unit.unit.auto.role ∷ done_line unit ∷ [])
 
 -- what is fired is the expression's value
 abbrev pub clocked_text : PortUnit → List ℕ
 clocked_text unit = concat (
     process_head
-    ∷ gets_text gets.Clocked unit.unit.auto.process unit.gets
-    ∷ puts_text puts.Clocked unit.unit.auto.process unit.puts
+    ∷ ports_text parts.Clocked unit
     ∷ role_text roles.Taken unit.unit.auto.role
     ∷ fire_lines (expr_text naming.Signals unit.unit.auto.expr)
     ∷ role_text roles.Gives unit.unit.auto.role ∷ loops_text loops.Gain unit.unit ∷ [])
@@ -122,8 +119,7 @@ clocked_text unit = concat (
 abbrev pub reset_text : PortUnit → List ℕ
 reset_text unit = concat (
     reset_lines ∷ role_text roles.Reset unit.unit.auto.role ∷ loops_text loops.Reset unit.unit
-    ∷ gets_text gets.Reset unit.unit.auto.process unit.gets
-    ∷ puts_text puts.Reset unit.unit.auto.process unit.puts ∷ node_end ∷ [])
+    ∷ ports_text parts.Reset unit ∷ node_end ∷ [])
 
 -- its sequencers, and the node over them
 abbrev pub port_unit_text : PortUnit → List ℕ

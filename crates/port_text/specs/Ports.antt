@@ -5,10 +5,8 @@ use Rattle.std.specs.List.{concat, flat_map}
 use Rattle.vhdl_text.specs.Numbered.{with_number}
 use Rattle.sequencer_text.specs.declared.sequencer.EntityName.TheVariants as names
 use Rattle.sequencer_text.specs.Sequencers.{name_text, sequencer_text}
-use Rattle.port_text.specs.declared.ports.GetPart.{GetPart}
-use Rattle.port_text.specs.declared.ports.GetPart.TheVariants as gets
-use Rattle.port_text.specs.declared.ports.PutPart.{PutPart}
-use Rattle.port_text.specs.declared.ports.PutPart.TheVariants as puts
+use Rattle.port_text.specs.declared.ports.PortPart.{PortPart}
+use Rattle.port_text.specs.declared.ports.PortPart.TheVariants as parts
 use Rattle.port_text.specs.declared.tables.GetColumn.TheVariants.{Op, Dst}
 use Rattle.port_text.specs.declared.unit.GetControl.{GetControl}
 use Rattle.port_text.specs.declared.unit.PutControl.{PutControl}
@@ -64,20 +62,20 @@ get_reset control = concat (
     codes "        get" ∷ decimal control.channel ∷ codes "_waits <= '" ∷ bit control.waits
     ∷ codes "';\n" ∷ [])
 
-abbrev pub get_text : GetPart → ℕ → GetControl → List ℕ
-get_text gets.Entity p control = sequencer_text (names.Get p control.channel) control.items
-get_text gets.Tables p control = get_table Op control ++ get_table Dst control
-get_text gets.Signals p control = get_signals control
-get_text gets.Sequencer p control = get_sequencer p control.channel
-get_text gets.Lines p control = get_lines control.channel
-get_text gets.MayFire p control =
+abbrev pub get_text : PortPart → ℕ → GetControl → List ℕ
+get_text parts.Entity p control = sequencer_text (names.Get p control.channel) control.items
+get_text parts.Tables p control = get_table Op control ++ get_table Dst control
+get_text parts.Signals p control = get_signals control
+get_text parts.Sequencer p control = get_sequencer p control.channel
+get_text parts.Lines p control = get_lines control.channel
+get_text parts.MayFire p control =
     with_number control.channel (codes "    and get" ∷ codes "_waits = '1'\n" ∷ [])
-get_text gets.Done p control =
+get_text parts.Done p control =
     with_number control.channel (codes "    and get" ∷ codes "_op_here = 4\n" ∷ [])
-get_text gets.Clocked p control = get_clocked control.channel
-get_text gets.Reset p control = get_reset control
+get_text parts.Clocked p control = get_clocked control.channel
+get_text parts.Reset p control = get_reset control
 
-abbrev pub gets_text : GetPart → ℕ → List GetControl → List ℕ
+abbrev pub gets_text : PortPart → ℕ → List GetControl → List ℕ
 gets_text part p controls = flat_map (get_text part p) controls
 
 -- A Put port
@@ -116,20 +114,20 @@ put_clocked c = with_number c (
     ∷ codes "_waits <= '1';\n      elsif put" ∷ codes "_clear = '1' then\n        put"
     ∷ codes "_waits <= '0';\n      end if;\n" ∷ [])
 
-abbrev pub put_text : PutPart → ℕ → PutControl → List ℕ
-put_text puts.Entity p control = sequencer_text (names.Put p control.channel) control.items
-put_text puts.Tables p control = put_table control
-put_text puts.Signals p control = put_signals control
-put_text puts.Sequencer p control = put_sequencer p control.channel
-put_text puts.Lines p control = put_lines control.channel
-put_text puts.MayFire p control = with_number control.channel (
+abbrev pub put_text : PortPart → ℕ → PutControl → List ℕ
+put_text parts.Entity p control = sequencer_text (names.Put p control.channel) control.items
+put_text parts.Tables p control = put_table control
+put_text parts.Signals p control = put_signals control
+put_text parts.Sequencer p control = put_sequencer p control.channel
+put_text parts.Lines p control = put_lines control.channel
+put_text parts.MayFire p control = with_number control.channel (
     codes "    and put" ∷ codes "_clear = '1' and (put" ∷ codes "_op_here = 2 or put"
     ∷ codes "_op_here = 3)\n" ∷ [])
-put_text puts.Done p control = with_number control.channel (
+put_text parts.Done p control = with_number control.channel (
     codes "    and put" ∷ codes "_op_here = 4 and put" ∷ codes "_waits = '0'\n" ∷ [])
-put_text puts.Clocked p control = put_clocked control.channel
-put_text puts.Reset p control =
+put_text parts.Clocked p control = put_clocked control.channel
+put_text parts.Reset p control =
     with_number control.channel (codes "        put" ∷ codes "_waits <= '0';\n" ∷ [])
 
-abbrev pub puts_text : PutPart → ℕ → List PutControl → List ℕ
+abbrev pub puts_text : PortPart → ℕ → List PutControl → List ℕ
 puts_text part p controls = flat_map (put_text part p) controls

@@ -2,10 +2,9 @@ ghost use Rattle.text_out.specs.Wrote.{Wrote};
 ghost use Rattle.vhdl_text.specs.declared.expression.Naming.TheVariants.{Signals};
 ghost use Rattle.vhdl_text.specs.Expressions.{expr_text};
 ghost use Rattle.unit_text.specs.Nodes.{fire_lines};
-ghost use Rattle.port_text.specs.Nodes.{clocked_text, constants_text, done_line, entities_text, fire_sequencer, may_fire_line, port_unit_text, read_text, reads_text, reset_text, role_lines, sequencers_text, signals_text, wiring_text};
-ghost use Rattle.port_text.specs.Ports.{gets_text, puts_text};
+ghost use Rattle.port_text.specs.Nodes.{clocked_text, constants_text, done_line, entities_text, fire_sequencer, may_fire_line, port_unit_text, ports_text, read_text, reads_text, reset_text, role_lines, sequencers_text, signals_text, wiring_text};
 
-use crate::ports::{GetPart, PutPart, write_gets, write_puts};
+use crate::ports::{PortPart, write_gets, write_puts};
 use crate::tables::write_read_table;
 use crate::unit::PortUnit;
 use sanlp::Role;
@@ -47,19 +46,11 @@ fn write_reads<W: TextWriter>(part: ReadPart, unit: &PortUnit, out: &mut W)
     }
 }
 
-// Writes a part for each port at which the process gets.
-fn write_all_gets<W: TextWriter>(part: GetPart, unit: &PortUnit, out: &mut W)
-    ensures { Wrote W.given out.old out.new
-        (gets_text part unit.now.unit.auto.process unit.now.gets) }
+// Writes a part for each port of the process: for those at which it gets, and then for those at which it puts.
+fn write_ports<W: TextWriter>(part: PortPart, unit: &PortUnit, out: &mut W)
+    ensures { Wrote W.given out.old out.new (ports_text part unit.now) }
 {
     write_gets(part, unit.unit.auto.process, unit.gets.as_slice(), out);
-}
-
-// Writes a part for each port at which the process puts.
-fn write_all_puts<W: TextWriter>(part: PutPart, unit: &PortUnit, out: &mut W)
-    ensures { Wrote W.given out.old out.new
-        (puts_text part unit.now.unit.auto.process unit.now.puts) }
-{
     write_puts(part, unit.unit.auto.process, unit.puts.as_slice(), out);
 }
 
@@ -94,8 +85,7 @@ fn write_may_fire<W: TextWriter>(unit: &PortUnit, out: &mut W)
     out.put(b"  may_fire <= '1' when pc /= ");
     write_number(unit.fires.instructions.len() as u64, out);
     out.put(b"\n");
-    write_all_gets(GetPart::MayFire, unit, out);
-    write_all_puts(PutPart::MayFire, unit, out);
+    write_ports(PortPart::MayFire, unit, out);
     out.put(b"    else '0';\n");
 }
 
@@ -105,8 +95,7 @@ fn write_done<W: TextWriter>(unit: &PortUnit, out: &mut W)
     out.put(b"  done <= '1' when pc = ");
     write_number(unit.fires.instructions.len() as u64, out);
     out.put(b"\n");
-    write_all_gets(GetPart::Done, unit, out);
-    write_all_puts(PutPart::Done, unit, out);
+    write_ports(PortPart::Done, unit, out);
     out.put(b"    else '0';\n");
 }
 
@@ -115,8 +104,7 @@ fn write_entities<W: TextWriter>(unit: &PortUnit, out: &mut W)
     ensures { Wrote W.given out.old out.new (entities_text unit.now) }
 {
     write_sequencer(EntityName::Fires(unit.unit.auto.process), &unit.fires, out);
-    write_all_gets(GetPart::Entity, unit, out);
-    write_all_puts(PutPart::Entity, unit, out);
+    write_ports(PortPart::Entity, unit, out);
     write_loops(LoopPart::Entity, &unit.unit, out);
 }
 
@@ -131,8 +119,7 @@ fn write_constants<W: TextWriter>(unit: &PortUnit, out: &mut W)
         ],
         out,
     );
-    write_all_gets(GetPart::Tables, unit, out);
-    write_all_puts(PutPart::Tables, unit, out);
+    write_ports(PortPart::Tables, unit, out);
     write_reads(ReadPart::Table, unit, out);
     write_loops(LoopPart::Table, &unit.unit, out);
 }
@@ -148,8 +135,7 @@ fn write_signals<W: TextWriter>(unit: &PortUnit, out: &mut W)
         ],
         out,
     );
-    write_all_gets(GetPart::Signals, unit, out);
-    write_all_puts(PutPart::Signals, unit, out);
+    write_ports(PortPart::Signals, unit, out);
     write_reads(ReadPart::Signal, unit, out);
     write_loops(LoopPart::Signals, &unit.unit, out);
     write_with_number(
@@ -169,8 +155,7 @@ fn write_sequencers<W: TextWriter>(unit: &PortUnit, out: &mut W)
     ensures { Wrote W.given out.old out.new (sequencers_text unit.now) }
 {
     write_fire_sequencer(unit.unit.auto.process, out);
-    write_all_gets(GetPart::Sequencer, unit, out);
-    write_all_puts(PutPart::Sequencer, unit, out);
+    write_ports(PortPart::Sequencer, unit, out);
     write_loops(LoopPart::Part, &unit.unit, out);
 }
 
@@ -179,8 +164,7 @@ fn write_wiring<W: TextWriter>(unit: &PortUnit, out: &mut W)
 {
     write_sequencers(unit, out);
     write_reads(ReadPart::Line, unit, out);
-    write_all_gets(GetPart::Lines, unit, out);
-    write_all_puts(PutPart::Lines, unit, out);
+    write_ports(PortPart::Lines, unit, out);
     write_may_fire(unit, out);
     write_role(unit.unit.auto.role, out);
     write_done(unit, out);
@@ -200,8 +184,7 @@ fn write_clocked<W: TextWriter>(unit: &PortUnit, out: &mut W)
     ensures { Wrote W.given out.old out.new (clocked_text unit.now) }
 {
     out.put(b"  process (clk)\n  begin\n    if rising_edge(clk) then\n");
-    write_all_gets(GetPart::Clocked, unit, out);
-    write_all_puts(PutPart::Clocked, unit, out);
+    write_ports(PortPart::Clocked, unit, out);
     out.put(role_part(RolePart::Taken, unit.unit.auto.role));
     write_fire(unit, out);
     out.put(role_part(RolePart::Gives, unit.unit.auto.role));
@@ -214,8 +197,7 @@ fn write_reset<W: TextWriter>(unit: &PortUnit, out: &mut W)
     out.put(b"      end if;\n      if rst = '1' then\n        fired <= zero;\n");
     out.put(role_part(RolePart::Reset, unit.unit.auto.role));
     write_loops(LoopPart::Reset, &unit.unit, out);
-    write_all_gets(GetPart::Reset, unit, out);
-    write_all_puts(PutPart::Reset, unit, out);
+    write_ports(PortPart::Reset, unit, out);
     out.put(b"      end if;\n    end if;\n  end process;\nend architecture;\n");
 }
 

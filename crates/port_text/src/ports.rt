@@ -10,32 +10,9 @@ use sequencer_text::{EntityName, write_name, write_sequencer};
 use text_out::{TextWriter, write_number};
 use vhdl_text::write_with_number;
 
-/// What a node has for a port at which it gets.
+/// What a node has for each of its ports.
 #[derive(Clone, Copy)]
-pub(crate) enum GetPart {
-    /// Its sequencer, before the node.
-    Entity,
-    /// What its items are.
-    Tables,
-    /// Its signals.
-    Signals,
-    /// Its sequencer in the node.
-    Sequencer,
-    /// The lines that drive its signals.
-    Lines,
-    /// When the process may fire.
-    MayFire,
-    /// When the process is done.
-    Done,
-    /// What is done at an edge.
-    Clocked,
-    /// What is done at a reset.
-    Reset,
-}
-
-/// What a node has for a port at which it puts.
-#[derive(Clone, Copy)]
-pub(crate) enum PutPart {
+pub(crate) enum PortPart {
     /// Its sequencer, before the node.
     Entity,
     /// What its items are.
@@ -121,20 +98,20 @@ fn write_get_reset<W: TextWriter>(control: &GetControl, out: &mut W)
     out.put(b"';\n");
 }
 
-fn write_get<W: TextWriter>(part: GetPart, process: u32, control: &GetControl, out: &mut W)
+fn write_get<W: TextWriter>(part: PortPart, process: u32, control: &GetControl, out: &mut W)
     ensures { Wrote W.given out.old out.new (get_text part process control.now) }
 {
     let channel = u64::from(control.channel);
     match part {
-        GetPart::Entity => write_sequencer(
+        PortPart::Entity => write_sequencer(
             EntityName::Get(process, control.channel),
             &control.items,
             out,
         ),
-        GetPart::Tables => write_get_tables(control, out),
-        GetPart::Signals => write_get_signals(control, out),
-        GetPart::Sequencer => write_get_sequencer(process, control.channel, out),
-        GetPart::Lines => write_with_number(
+        PortPart::Tables => write_get_tables(control, out),
+        PortPart::Signals => write_get_signals(control, out),
+        PortPart::Sequencer => write_get_sequencer(process, control.channel, out),
+        PortPart::Lines => write_with_number(
             channel,
             &[
                 b"  get",
@@ -158,11 +135,11 @@ fn write_get<W: TextWriter>(part: GetPart, process: u32, control: &GetControl, o
             ],
             out,
         ),
-        GetPart::MayFire => {
+        PortPart::MayFire => {
             write_with_number(channel, &[b"    and get", b"_waits = '1'\n"], out)
         }
-        GetPart::Done => write_with_number(channel, &[b"    and get", b"_op_here = 4\n"], out),
-        GetPart::Clocked => write_with_number(
+        PortPart::Done => write_with_number(channel, &[b"    and get", b"_op_here = 4\n"], out),
+        PortPart::Clocked => write_with_number(
             channel,
             &[
                 b"      if get",
@@ -177,13 +154,13 @@ fn write_get<W: TextWriter>(part: GetPart, process: u32, control: &GetControl, o
             ],
             out,
         ),
-        GetPart::Reset => write_get_reset(control, out),
+        PortPart::Reset => write_get_reset(control, out),
     }
 }
 
 /// Writes a part for each of these ports of a process.
 pub(crate) fn write_gets<W: TextWriter>(
-    part: GetPart,
+    part: PortPart,
     process: u32,
     controls: &[GetControl],
     out: &mut W,
@@ -233,20 +210,20 @@ fn write_put_sequencer<W: TextWriter>(process: u32, channel: u32, out: &mut W)
     );
 }
 
-fn write_put<W: TextWriter>(part: PutPart, process: u32, control: &PutControl, out: &mut W)
+fn write_put<W: TextWriter>(part: PortPart, process: u32, control: &PutControl, out: &mut W)
     ensures { Wrote W.given out.old out.new (put_text part process control.now) }
 {
     let channel = u64::from(control.channel);
     match part {
-        PutPart::Entity => write_sequencer(
+        PortPart::Entity => write_sequencer(
             EntityName::Put(process, control.channel),
             &control.items,
             out,
         ),
-        PutPart::Tables => write_put_table(control, out),
-        PutPart::Signals => write_put_signals(control, out),
-        PutPart::Sequencer => write_put_sequencer(process, control.channel, out),
-        PutPart::Lines => write_with_number(
+        PortPart::Tables => write_put_table(control, out),
+        PortPart::Signals => write_put_signals(control, out),
+        PortPart::Sequencer => write_put_sequencer(process, control.channel, out),
+        PortPart::Lines => write_with_number(
             channel,
             &[
                 b"  put",
@@ -265,7 +242,7 @@ fn write_put<W: TextWriter>(part: PutPart, process: u32, control: &PutControl, o
             ],
             out,
         ),
-        PutPart::MayFire => write_with_number(
+        PortPart::MayFire => write_with_number(
             channel,
             &[
                 b"    and put",
@@ -275,12 +252,12 @@ fn write_put<W: TextWriter>(part: PutPart, process: u32, control: &PutControl, o
             ],
             out,
         ),
-        PutPart::Done => write_with_number(
+        PortPart::Done => write_with_number(
             channel,
             &[b"    and put", b"_op_here = 4 and put", b"_waits = '0'\n"],
             out,
         ),
-        PutPart::Clocked => write_with_number(
+        PortPart::Clocked => write_with_number(
             channel,
             &[
                 b"      if put",
@@ -292,7 +269,7 @@ fn write_put<W: TextWriter>(part: PutPart, process: u32, control: &PutControl, o
             ],
             out,
         ),
-        PutPart::Reset => {
+        PortPart::Reset => {
             write_with_number(channel, &[b"        put", b"_waits <= '0';\n"], out)
         }
     }
@@ -300,7 +277,7 @@ fn write_put<W: TextWriter>(part: PutPart, process: u32, control: &PutControl, o
 
 /// Writes a part for each of these ports of a process.
 pub(crate) fn write_puts<W: TextWriter>(
-    part: PutPart,
+    part: PortPart,
     process: u32,
     controls: &[PutControl],
     out: &mut W,

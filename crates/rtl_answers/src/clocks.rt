@@ -2,7 +2,6 @@ ghost use Rattle.std.specs.Prelude.{◌≡◌, ◌<◌, ◌^◌, length, IfOk};
 ghost use Rattle.net_core.specs.Machine.{net_of};
 ghost use Rattle.net_core.specs.Shape.{FitsNumbers};
 ghost use Rattle.net_core.specs.Sound.{IsSound};
-ghost use Rattle.sanlp.specs.Points.{points_of};
 ghost use Rattle.sanlp.specs.Size.{SizeIsOk};
 ghost use Rattle.text_out.specs.Wrote.{Wrote};
 ghost use Rattle.command_answers.specs.Judging.{Judges};
@@ -13,19 +12,19 @@ ghost use Rattle.clock_sim.specs.Clocks.{clocks};
 ghost use Rattle.rtl_answers.specs.Clocking.{clocks_for, clocks_lines, clocks_of, clocks_text, clocks_with, down_clocks};
 
 use crate::answer::Answer;
-use crate::networks::network_for;
+use crate::networks::{NestPoints, network_for};
 use bundle::parts_of;
 use clock_sim::simulate;
 use command_answers::{Stop, sized_nest};
 use io_edge::{Sink, WriteFault};
 use loop_class::Params;
 use loop_walk::points;
-use net_core::Network;
+use net_core::{Network, WiredNetwork};
 use node_automata::automata;
 use plain_data::Items;
 use port_sim::{clock_count, sound_networks_end};
 use rtl_line::{Policy, Ports};
-use sanlp::{Inputs, Nest, Points};
+use sanlp::{Inputs, Nest};
 use std::alloc::{AllocError, Global};
 use text_out::{TextWriter, Word, Writer, write_line};
 
@@ -40,15 +39,15 @@ pub struct Clocks {
 // The number of clocks of the clocked run of a network's scripts. It doesn't hang on values, so the arrays that are given are empty.
 fn script_clocks(
     alloc: Global,
-    nest: &Nest,
-    points: &Points,
+    nest_points: &NestPoints,
     network: &Network,
 ) -> Result<u64, AllocError>
-    requires points { points.now.of ≡ points_of nest.now }
     requires numbers { FitsNumbers (net_of network.now) }
-    requires sound { IsSound nest.now network.now }
+    requires sound { IsSound nest_points.now.nest.now network.now }
     ensures { IfOk result (λ count. count ≡ clocks (net_of network.now)) }
 {
+    let nest = nest_points.nest;
+    let points = nest_points.points;
     let autos = automata(alloc, nest, points, network)?;
     let nothing = Inputs {
         arrays: Items::new(alloc),
@@ -61,20 +60,19 @@ fn script_clocks(
 fn clocks_with(
     alloc: Global,
     ports: Ports,
-    nest: &Nest,
-    points: &Points,
+    nest_points: &NestPoints,
     network: &Network,
 ) -> Result<u64, AllocError>
-    requires points { points.now.of ≡ points_of nest.now }
     requires numbers { FitsNumbers (net_of network.now) }
-    requires sound { IsSound nest.now network.now }
+    requires sound { IsSound nest_points.now.nest.now network.now }
     ensures { IfOk result (λ count. count ≡ clocks_with ports (net_of network.now)) }
 {
     match ports {
-        Ports::One => script_clocks(alloc, nest, points, network),
+        Ports::One => script_clocks(alloc, nest_points, network),
         Ports::All => {
             sound_networks_end();
-            clock_count(alloc, network)
+            let wired = WiredNetwork { network };
+            clock_count(alloc, &wired)
         }
     }
 }
@@ -84,15 +82,12 @@ fn clocks_for(
     alloc: Global,
     ports: Ports,
     policy: Policy,
-    nest: &Nest,
-    points: &Points,
+    nest_points: &NestPoints,
 ) -> Result<u64, AllocError>
-    requires size { SizeIsOk nest.now }
-    requires points { points.now.of ≡ points_of nest.now }
-    ensures { IfOk result (λ count. count ≡ clocks_for ports policy nest.now) }
+    ensures { IfOk result (λ count. count ≡ clocks_for ports policy nest_points.now.nest.now) }
 {
-    let network = network_for(alloc, policy, nest, points)?;
-    clocks_with(alloc, ports, nest, points, &network)
+    let network = network_for(alloc, policy, nest_points)?;
+    clocks_with(alloc, ports, nest_points, &network)
 }
 
 // Beside least capacities, the number of clocks with those that the schedule `down` needs.
@@ -100,17 +95,14 @@ fn down_clocks(
     alloc: Global,
     ports: Ports,
     policy: Policy,
-    nest: &Nest,
-    points: &Points,
+    nest_points: &NestPoints,
 ) -> Result<Option<u64>, AllocError>
-    requires size { SizeIsOk nest.now }
-    requires points { points.now.of ≡ points_of nest.now }
-    ensures { IfOk result (λ down. down ≡ down_clocks ports policy nest.now) }
+    ensures { IfOk result (λ down. down ≡ down_clocks ports policy nest_points.now.nest.now) }
 {
     match policy {
         Policy::Seq | Policy::Down => Ok(None),
         Policy::Least => {
-            let clocks = clocks_for(alloc, ports, Policy::Down, nest, points)?;
+            let clocks = clocks_for(alloc, ports, Policy::Down, nest_points)?;
             Ok(Some(clocks))
         }
     }
@@ -121,8 +113,12 @@ fn clocks_of(alloc: Global, ports: Ports, policy: Policy, nest: &Nest) -> Result
     ensures { IfOk result (λ told. told ≡ clocks_of ports policy nest.now) }
 {
     let points = points(alloc, nest)?;
-    let clocks = clocks_for(alloc, ports, policy, nest, &points)?;
-    let down = down_clocks(alloc, ports, policy, nest, &points)?;
+    let nest_points = NestPoints {
+        nest,
+        points: &points,
+    };
+    let clocks = clocks_for(alloc, ports, policy, &nest_points)?;
+    let down = down_clocks(alloc, ports, policy, &nest_points)?;
     Ok(Clocks { clocks, down })
 }
 

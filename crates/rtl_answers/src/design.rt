@@ -1,27 +1,21 @@
-ghost use Rattle.std.specs.Prelude.{◌≡◌, ◌<◌, ◌^◌, length, IfOk};
-ghost use Rattle.net_core.specs.Machine.{net_of};
-ghost use Rattle.net_core.specs.Shape.{FitsNumbers, IsShaped};
-ghost use Rattle.sanlp.specs.Points.{points_of};
+ghost use Rattle.std.specs.Prelude.{◌≡◌, ◌<◌, ◌^◌, length};
 ghost use Rattle.sanlp.specs.Size.{SizeIsOk};
-ghost use Rattle.rtl_text.specs.Designs.{AreUnitsOf};
 ghost use Rattle.command_answers.specs.Judging.{Judges};
 ghost use Rattle.rtl_line.specs.declared.words.Ports.TheVariants.{One};
 ghost use Rattle.rtl_answers.specs.Answering.{as_reply};
 ghost use Rattle.rtl_answers.specs.Designing.{Designs, HasDesign, unit_refusal};
 
 use crate::answer::Answer;
-use crate::networks::network_for;
+use crate::hardware::hardware_for;
 use crate::port_answer::port_design_of;
 use bundle::parts_of;
 use command_answers::{Refusal, Stop, sized_nest};
 use loop_class::Params;
-use loop_walk::points;
 use net_core::Network;
-use node_automata::automaton;
 use plain_data::Items;
 use rtl_line::{Policy, Ports};
-use sanlp::{Nest, Points};
-use std::alloc::{AllocError, Global};
+use sanlp::Nest;
+use std::alloc::Global;
 use unit_text::{Unit, first_with_long_sequencer};
 
 /// A nest's network with the hardware of its processes, in order.
@@ -31,27 +25,6 @@ pub struct Design {
     pub nest: Nest,
     pub network: Network,
     pub units: Items<Unit>,
-}
-
-// The hardware of all processes, in order.
-fn units_of(
-    alloc: Global,
-    nest: &Nest,
-    points: &Points,
-    network: &Network,
-) -> Result<Items<Unit>, AllocError>
-    requires points { points.now.of ≡ points_of nest.now }
-    requires shaped { IsShaped (net_of network.now) points.now.of }
-    requires numbers { FitsNumbers (net_of network.now) }
-    ensures { IfOk result (λ units. AreUnitsOf nest.now network.now units) }
-{
-    let mut units = Items::new(alloc);
-    for process in 0..network.processes.len() as u32 {
-        let auto = automaton(alloc, nest, points, network, process)?;
-        let unit = Unit::of(alloc, auto)?;
-        units.push(unit)?;
-    }
-    Ok(units)
 }
 
 // The refusal of a process with a sequencer of too many instructions.
@@ -66,9 +39,7 @@ fn design_of(alloc: Global, policy: Policy, nest: Nest) -> Result<Answer, Stop>
     requires { SizeIsOk nest }
     ensures { Judges (λ answer. HasDesign One policy nest (as_reply answer)) result }
 {
-    let points = points(alloc, &nest)?;
-    let network = network_for(alloc, policy, &nest, &points)?;
-    let units = units_of(alloc, &nest, &points, &network)?;
+    let (network, units) = hardware_for::<Unit>(alloc, policy, &nest)?;
     if let Some(unit) = first_with_long_sequencer(units.as_slice()) {
         return Err(Stop::Refused(refusal_of(unit)));
     }

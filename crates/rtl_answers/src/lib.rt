@@ -8,6 +8,7 @@ mod answer;
 mod call;
 mod clocks;
 mod design;
+mod hardware;
 mod laws;
 mod networks;
 mod port_answer;

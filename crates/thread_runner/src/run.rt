@@ -27,24 +27,25 @@ use witness_plan::run_by;
 // What the sinks have kept, where each process has kept the values of its points.
 fn answer<K: Keeper>(
     alloc: Global,
-    nest: &Nest,
-    inputs: &Inputs,
+    rule: &Values,
     network: &Network,
     keeper: &K,
     lists: Vec<Vec<i64>>,
     outputs: Vec<Items<i64>>,
 ) -> Arrays
-    requires sound { IsSound nest.now network.now }
-    requires processes { K.processes keeper.now ≡ length nest.now.statements }
-    requires values { (p : ℕ) → K.values keeper.now p ≡ values_of nest.now inputs.now p }
-    requires lists { (length lists.items ≡ length (output_numbers nest.now.arrays))
-        × HaveSpace (turns (points_of nest.now)) (length nest.now.statements) lists.items }
-    requires outputs { (outputs.items ≡ []) × (length nest.now.arrays ≤ vec_capacity outputs) }
-    ensures { result.arrays ≡ arrays nest.now inputs.now }
+    requires sound { IsSound rule.now.nest.now network.now }
+    requires processes { K.processes keeper.now ≡ length rule.now.nest.now.statements }
+    requires values { (p : ℕ)
+        → K.values keeper.now p ≡ values_of rule.now.nest.now rule.now.inputs.now p }
+    requires lists { (length lists.items ≡ length (output_numbers rule.now.nest.now.arrays))
+        × HaveSpace (turns (points_of rule.now.nest.now))
+        (length rule.now.nest.now.statements) lists.items }
+    requires outputs { (outputs.items ≡ [])
+        × (length rule.now.nest.now.arrays ≤ vec_capacity outputs) }
+    ensures { result.arrays ≡ arrays rule.now.nest.now rule.now.inputs.now }
 {
-    let _inputs = inputs;
     let _network = network;
-    gathered(alloc, nest, keeper, lists, outputs)
+    gathered(alloc, rule.nest, keeper, lists, outputs)
 }
 
 // Asks the gate for each process, as its worker does before it works.
@@ -58,32 +59,25 @@ fn ask_for_each<G: Gate>(network: &Network, gate: &G)
 
 // Runs a network along a schedule that ends all. Each process asks the gate before.
 fn run_along<G: Gate>(
-    nest: &Nest,
-    points: &Points,
-    inputs: &Inputs,
+    rule: &Values,
     network: &Network,
     schedule: &[u32],
     state: &mut State<i64>,
     gate: &G,
 )
-    requires points { points.now.of ≡ points_of nest.now }
     requires numbers { FitsNumbers (net_of network.now) }
-    requires sound { IsSound nest.now network.now }
+    requires sound { IsSound rule.now.nest.now network.now }
     requires ends { EndsAll (net_of network.now) tags schedule.now }
     requires opening { run_of state.old ≡ start (net_of network.now) }
     requires state { IsFor (net_of network.now) (held_of state.old) }
-    ensures kept { (p : ℕ) → ((run_of state.new).local p).kept ≡ values_of nest.now inputs.now p }
+    ensures kept { (p : ℕ)
+        → ((run_of state.new).local p).kept ≡ values_of rule.now.nest.now rule.now.inputs.now p }
     ensures state { IsFor (net_of network.now) (held_of state.new) }
 {
     every_order::<Tag, i64>();
     sound();
     ask_for_each(network, gate);
-    let rule = Values {
-        nest,
-        points,
-        inputs,
-    };
-    run_by(state, network, &rule, schedule);
+    run_by(state, network, rule, schedule);
 }
 
 /// Runs a network by one thread for each process, and gives the arrays after the nest. A worker asks the gate before it works,
@@ -118,12 +112,17 @@ pub fn run_threads<R: Threads + Wait + Sync, E: Ends + Send + Drop, G: Gate + Sy
         arrays,
         mut state,
     } = bench;
+    let rule = Values {
+        nest,
+        points,
+        inputs,
+    };
     let (rooms, ran) = run_workers(rt, nest, points, inputs, network, rooms, ends, gate);
     if ran {
         let keeper = Rooms { rooms: &rooms };
-        answer(alloc, nest, inputs, network, &keeper, lists, arrays)
+        answer(alloc, &rule, network, &keeper, lists, arrays)
     } else {
-        run_along(nest, points, inputs, network, schedule, &mut state, gate);
-        answer(alloc, nest, inputs, network, &state, lists, arrays)
+        run_along(&rule, network, schedule, &mut state, gate);
+        answer(alloc, &rule, network, &state, lists, arrays)
     }
 }

@@ -8,12 +8,12 @@ pub run_node-requires-clause-incoming : goal.run_node-requires-clause-incoming
 run_node-requires-clause-incoming g c b =
     c.in_ok-ends.ensures.from b
     ∙ same_incoming (nth_stream c.deref.result.now)
-    (stream c.args.nest.now c.args.network.now c.args.inputs.now) c.args.network.now c.args.process
+    (stream c.args.made.now.nest c.args.made.now.network c.args.inputs.now) c.args.made.now.network c.args.process
     (λ i lt. ap (λ l. nth_stream l i) c.deref.ensures.value ∙ c.in_ok-streams.ensures.each i lt) b
 
 pub run_node-requires-clause-outgoing : goal.run_node-requires-clause-outgoing
 run_node-requires-clause-outgoing g c b =
     c.in_ok-ends.ensures.to b
     ∙ same_outgoing (nth_stream c.deref.result.now)
-    (stream c.args.nest.now c.args.network.now c.args.inputs.now) c.args.network.now c.args.process
+    (stream c.args.made.now.nest c.args.made.now.network c.args.inputs.now) c.args.made.now.network c.args.process
     (λ i lt. ap (λ l. nth_stream l i) c.deref.ensures.value ∙ c.in_ok-streams.ensures.each i lt) b

@@ -8,12 +8,12 @@ use Rattle.nest_tests.proofs.alone.stream_of.Goals as goal
 pub values_put-requires-clause-events : goal.values_put-requires-clause-events
 values_put-requires-clause-events c =
     c.as_slice.ensures ∙ c.in_ok-events.ensures ∙ c.script_of.ensures
-    ∙ ap (net_of c.args.network.now).script c.writer_of-writer.ensures
+    ∙ ap (net_of c.args.made.now.network).script c.writer_of-writer.ensures
 
 pub values_put-requires-clause-kept : goal.values_put-requires-clause-kept
 values_put-requires-clause-kept c =
-    let n = net_of c.args.network.now in
-    let v = tag_value c.args.nest.now c.args.inputs.now in
+    let n = net_of c.args.made.now.network in
+    let v = tag_value c.args.made.now.nest c.args.inputs.now in
     let writer = n.writer c.args.channel in
     let events =
     c.as_slice.ensures ∙ c.in_ok-events.ensures ∙ c.script_of.ensures ∙ ap n.script c.writer_of-writer.ensures in

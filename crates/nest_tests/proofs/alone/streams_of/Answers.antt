@@ -11,6 +11,6 @@ loop-channel-preserved c =
           ap length c.in_ok-push.ensures.items
           ∙ length-append c.loop-channel.streams.items (c.in_ok-stream_of.field-0 ∷ []) ∙ ap (λ k. k + 1) i.number;
       each = more_streams c.loop-channel.streams.items c.push.new.self.items c.in_ok-stream_of.field-0
-          c.loop-channel.channel (stream c.args.nest.now c.args.network.now c.args.inputs.now)
+          c.loop-channel.channel (stream c.args.made.now.nest c.args.made.now.network c.args.inputs.now)
           c.in_ok-push.ensures.items i.number i.each c.in_ok-stream_of.ensures;
     }

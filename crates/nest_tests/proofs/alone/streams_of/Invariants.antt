@@ -6,5 +6,5 @@ use Rattle.nest_tests.proofs.alone.streams_of.Given as goal
 abbrev pub invariant-loop-channel : goal.invariant-loop-channel
 invariant-loop-channel l = record {
   number : length l.streams.items ≡ l.channel;
-  each : (c : ℕ) → c < l.channel → nth_stream l.streams.items c ≡ stream l.nest l.network l.inputs c;
+  each : (c : ℕ) → c < l.channel → nth_stream l.streams.items c ≡ stream l.made.nest l.made.network l.inputs c;
 }

@@ -10,8 +10,8 @@ use Rattle.nest_tests.proofs.alone.values_put.Goals as goal
 
 pub loop-event-preserved : goal.loop-event-preserved
 loop-event-preserved c =
-    let n = net_of c.args._network.now in
-    let v = tag_value c.args._nest.now c.args._inputs.now in
+    let n = net_of c.args._made.now.network in
+    let v = tag_value c.args._made.now.nest c.args._inputs.now in
     let channel = c.args.channel in
     let writer = n.writer channel in
     let events = c.args.events.now in

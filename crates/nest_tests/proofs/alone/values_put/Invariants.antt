@@ -8,6 +8,6 @@ use Rattle.nest_tests.proofs.alone.values_put.Given as goal
 abbrev pub invariant-loop-event : goal.invariant-loop-event
 invariant-loop-event l = record {
   values_are : l.values.items
-      ≡ map (tag_value l._nest l._inputs) (tokens_before (net_of l._network) l.channel l.event-index);
-  fires_are : l.fires ≡ fires (net_of l._network) ((net_of l._network).writer l.channel) l.event-index;
+      ≡ map (tag_value l._made.nest l._inputs) (tokens_before (net_of l._made.network) l.channel l.event-index);
+  fires_are : l.fires ≡ fires (net_of l._made.network) ((net_of l._made.network).writer l.channel) l.event-index;
 }

@@ -1,8 +1,8 @@
 use Rattle.nest_tests.proofs.clocks.counted.Goals as goal
 
-pub clock_count-requires-clause-wired : goal.clock_count-requires-clause-wired
-clock_count-requires-clause-wired c = c.requires.sound.fits.shaped.wired
+pub invariant_of-wired-clause-wired : goal.invariant_of-wired-clause-wired
+invariant_of-wired-clause-wired c = c.requires.fits.shaped.wired
 
-pub clock_count-requires-clause-ends : goal.clock_count-requires-clause-ends
-clock_count-requires-clause-ends c =
-    c.sound_networks_end.ensures c.args.made.now.nest c.args.made.now.network c.requires.sound
+pub clock_count-requires : goal.clock_count-requires
+clock_count-requires c =
+    c.sound_networks_end.ensures c.args.made.now.nest c.args.made.now.network c.requires

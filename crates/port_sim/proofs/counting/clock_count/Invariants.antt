@@ -9,11 +9,11 @@ use Rattle.port_sim.proofs.counting.clock_count.Given as goal
 abbrev pub invariant-loop-more : goal.invariant-loop-more
 invariant-loop-more l =
     record {
-      at : IsAt (net_of l.network) (after_port_clocks (net_of l.network) tags (suc l.clocks)) l.ports;
-      more : l.more ≡ not (is_still_after (net_of l.network) l.clocks);
-      few : l.clocks ≤ port_clocks (net_of l.network);
-      before : length l.before.items ≡ length l.network.channels;
+      at : IsAt (net_of l.wired.network.now) (after_port_clocks (net_of l.wired.network.now) tags (suc l.clocks)) l.ports;
+      more : l.more ≡ not (is_still_after (net_of l.wired.network.now) l.clocks);
+      few : l.clocks ≤ port_clocks (net_of l.wired.network.now);
+      before : length l.before.items ≡ length l.wired.network.now.channels;
     }
 
 abbrev pub decreases-loop-more : goal.decreases-loop-more
-decreases-loop-more l = port_clocks (net_of l.network) - l.clocks
+decreases-loop-more l = port_clocks (net_of l.wired.network.now) - l.clocks

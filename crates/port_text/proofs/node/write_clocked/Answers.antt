@@ -6,9 +6,8 @@ pub returns : goal.returns
 returns g c =
     let w = g.W.TextWriter.given in
     Wrote-append w _ _ c.put.ensures
-    (Wrote-append w _ _ c.write_all_gets.ensures
-    (Wrote-append w _ _ c.write_all_puts.ensures
+    (Wrote-append w _ _ c.write_ports.ensures
     (Wrote-append w _ _ (rw c.role_part.ensures at c.put-2.ensures)
     (Wrote-append w _ _ c.write_fire.ensures
     (Wrote-append w _ _ (rw c.role_part-2.ensures at c.put-3.ensures)
-    (Wrote-last w _ c.write_loops.ensures))))))
+    (Wrote-last w _ c.write_loops.ensures)))))

@@ -6,7 +6,6 @@ pub returns : goal.returns
 returns g c =
     let w = g.W.TextWriter.given in
     Wrote-append w _ _ (rw c.from.ensures at c.write_with_number.ensures)
-    (Wrote-append w _ _ c.write_all_gets.ensures
-    (Wrote-append w _ _ c.write_all_puts.ensures
+    (Wrote-append w _ _ c.write_ports.ensures
     (Wrote-append w _ _ c.write_reads.ensures
-    (Wrote-last w _ c.write_loops.ensures))))
+    (Wrote-last w _ c.write_loops.ensures)))

@@ -7,6 +7,5 @@ returns g c =
     Wrote-append w _ _ c.put.ensures
     (Wrote-append w _ _ (rw c.len.ensures at c.write_number.ensures)
     (Wrote-append w _ _ c.put-2.ensures
-    (Wrote-append w _ _ c.write_all_gets.ensures
-    (Wrote-append w _ _ c.write_all_puts.ensures
-    (c.put-3.ensures)))))
+    (Wrote-append w _ _ c.write_ports.ensures
+    (c.put-3.ensures))))

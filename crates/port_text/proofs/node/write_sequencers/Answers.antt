@@ -6,6 +6,5 @@ pub returns : goal.returns
 returns g c =
     let w = g.W.TextWriter.given in
     Wrote-append w _ _ c.write_fire_sequencer.ensures
-    (Wrote-append w _ _ c.write_all_gets.ensures
-    (Wrote-append w _ _ c.write_all_puts.ensures
-    (Wrote-last w _ c.write_loops.ensures)))
+    (Wrote-append w _ _ c.write_ports.ensures
+    (Wrote-last w _ c.write_loops.ensures))

@@ -7,8 +7,7 @@ returns g c =
     let w = g.W.TextWriter.given in
     Wrote-append w _ _ c.write_sequencers.ensures
     (Wrote-append w _ _ c.write_reads.ensures
-    (Wrote-append w _ _ c.write_all_gets.ensures
-    (Wrote-append w _ _ c.write_all_puts.ensures
+    (Wrote-append w _ _ c.write_ports.ensures
     (Wrote-append w _ _ c.write_may_fire.ensures
     (Wrote-append w _ _ c.write_role.ensures
-    (Wrote-last w _ c.write_done.ensures))))))
+    (Wrote-last w _ c.write_done.ensures)))))

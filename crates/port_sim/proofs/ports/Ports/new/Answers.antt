@@ -1,8 +1,8 @@
-use Rattle.std.proofs.Common.{◌≡◌, ◌<◌, ℕ, zero, suc, false, [], Some, List, length, replicate, slice_get, ap, sym, subst, ◌∙◌}
+use Rattle.std.proofs.Common.{◌≡◌, ℕ, false, [], Some, List, length, replicate, slice_get, ap, sym, subst, ◌∙◌}
 use Rattle.std.proofs.Common.{refl, arith}
 use Rattle.std.specs.Option.{option_map_or}
-use Rattle.std.proofs.lemmas.List.{length-replicate}
-use Rattle.std.proofs.lemmas.Option.{slice_get_within}
+use Rattle.std.proofs.lemmas.List.{get_or-replicate, length-replicate}
+use Rattle.std.proofs.lemmas.Option.{slice_get_read, slice_get_within}
 use Rattle.net_core.specs.declared.network.Event.{Event}
 use Rattle.net_core.specs.declared.network.Process.{Process}
 use Rattle.net_core.specs.Machine.{net_of}
@@ -10,11 +10,6 @@ use Rattle.net_core.proofs.Ready.{script_short}
 use Rattle.port_sim.specs.Windows.{IsWindow}
 use Rattle.port_sim.proofs.ports.Ports.new.Goals as goal
 use Rattle.plain_data.proofs.Lists.{slice_get-some}
-
-get_replicate : (m c x : ℕ) → c < m → slice_get (replicate m x) c ≡ Some x
-get_replicate zero c x lt = absurd (omega arith)
-get_replicate (suc m) zero x lt = refl
-get_replicate (suc m) (suc c) x lt = get_replicate m c x (omega arith)
 
 -- the script of a process that is read
 script_is : (processes read : List Process) (p : ℕ) (process : Process) → read ≡ processes
@@ -27,20 +22,20 @@ script_is processes read p process same found =
 pub first_windows-requires : goal.first_windows-requires
 first_windows-requires c =
     λ p process found.
-    let n = net_of c.args.network.now in
-    let script = script_is c.args.network.now.processes c.as_slice.result.now p process c.as_slice.ensures found in
-    omega (arith, ap length script, script_short n c.requires.wired c.requires.numbers p)
+    let n = net_of c.args.wired.now.network.now in
+    let script = script_is c.args.wired.now.network.now.processes c.as_slice.result.now p process c.as_slice.ensures found in
+    omega (arith, ap length script, script_short n c.args.wired.now.wired c.args.wired.now.numbers p)
 
 pub returns : goal.returns
 returns c =
-    let network = c.args.network.now in
+    let network = c.args.wired.now.network.now in
     let read = c.as_slice.result.now in
     let many = c.in_ok-first_windows.ensures.0 in
     let queued = c.in_ok-vec.ensures.items_if_clones_equal (λ y h. h) ∙ ap (λ k. replicate k 0) c.len.ensures in
     let channels = length network.channels in
     record {
-      wired = c.requires.wired;
-      numbers = c.requires.numbers;
+      wired = c.args.wired.now.wired;
+      numbers = c.args.wired.now.numbers;
       reached = ([], tt, refl);
       number = many ∙ ap length c.as_slice.ensures;
       windows = λ p w found.
@@ -52,6 +47,8 @@ returns c =
       queues = record {
         number = ap length queued ∙ length-replicate channels 0;
         lengths = λ ch there.
-            ap (λ (l : List ℕ). slice_get l ch) queued ∙ get_replicate channels ch 0 there;
+            ap (λ (l : List ℕ). slice_get l ch) queued
+            ∙ slice_get_read (replicate channels 0) channels ch 0 (sym (length-replicate channels 0)) there
+            (sym (get_or-replicate channels ch 0 0 there));
       };
     }

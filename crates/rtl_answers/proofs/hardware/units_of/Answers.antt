@@ -9,19 +9,19 @@ use Rattle.net_core.specs.Machine.{net_of}
 use Rattle.net_core.specs.Shape.{IsShaped}
 use Rattle.node_automata.specs.Automata.{automata}
 use Rattle.node_automata.proofs.Places.{automata_length}
-use Rattle.unit_text.specs.Units.{IsUnitOf}
 use Rattle.rtl_answers.proofs.Units.{few_values}
-use Rattle.rtl_answers.proofs.design.units_of.Goals as goal
+use Rattle.rtl_answers.proofs.hardware.units_of.Goals as goal
 
-pub of-requires : goal.of-requires
-of-requires c =
-    few_values c.args.nest.now c.args.network.now c.loop-process.process c.in_ok-auto.auto
-    (subst (IsShaped (net_of c.args.network.now)) c.requires.points c.requires.shaped) c.requires.numbers
-    c.in_ok-auto.ensures
+pub from_automaton-requires : goal.from_automaton-requires
+from_automaton-requires g c =
+    few_values c.args.nest_points.now.nest.now c.args.network.now c.loop-process.process c.in_ok-auto.auto
+    (subst (IsShaped (net_of c.args.network.now)) c.args.nest_points.now.points_of_nest c.requires.shaped)
+    c.requires.numbers c.in_ok-auto.ensures
 
 pub loop-process-preserved : goal.loop-process-preserved
-loop-process-preserved c =
-    let all = automata c.args.nest.now c.args.network.now in
+loop-process-preserved g c =
+    let IsOf = g.U.Hardware.is_of in
+    let all = automata c.args.nest_points.now.nest.now c.args.network.now in
     let p = c.loop-process.process in
     let auto = c.in_ok-auto.auto in
     let unit = c.in_ok-unit.unit in
@@ -30,17 +30,17 @@ loop-process-preserved c =
     let next : take (p + 1) all ≡ take p all ++ auto ∷ [] =
     ap (λ n. take n all) (add-one p) ∙ take-suc all p auto (slice_get_within all p auto found)
     ∙ ap (λ last. take p all ++ last ∷ []) item in
-    subst (AllZip IsUnitOf (take (p + 1) all)) (sym c.in_ok-push.ensures.ok)
-    (subst (λ autos. AllZip IsUnitOf autos (c.loop-process.units ++ unit ∷ [])) (sym next)
-    (AllZip-push IsUnitOf (take p all) c.loop-process.units auto unit c.loop-process.invariant c.in_ok-unit.ensures))
+    subst (AllZip IsOf (take (p + 1) all)) (sym c.in_ok-push.ensures.ok)
+    (subst (λ autos. AllZip IsOf autos (c.loop-process.units ++ unit ∷ [])) (sym next)
+    (AllZip-push IsOf (take p all) c.loop-process.units auto unit c.loop-process.invariant c.in_ok-unit.ensures))
 
 pub returns : goal.returns
-returns c =
-    let nest = c.args.nest.now in
+returns g c =
+    let nest = c.args.nest_points.now.nest.now in
     let network = c.args.network.now in
     let many : length network.processes ≡ length nest.statements =
-    c.requires.shaped.processes ∙ ap length c.requires.points ∙ points_length nest in
-    subst (λ autos. AllZip IsUnitOf autos c.loop-process.units)
+    c.requires.shaped.processes ∙ ap length c.args.nest_points.now.points_of_nest ∙ points_length nest in
+    subst (λ autos. AllZip g.U.Hardware.is_of autos c.loop-process.units)
     (take_all c.loop-process.process (automata nest network)
     (omega (arith, automata_length nest network, many, c.len-process-end.ensures, c.loop-process-test.false)))
     c.loop-process.invariant

@@ -13,7 +13,7 @@ use Rattle.std.proofs.lemmas.List.{length-append}
 use Rattle.channel_plan.specs.declared.plans.ChannelPlan.{ChannelPlan}
 use Rattle.channel_plan.specs.Plans.{plans_of, turn_count}
 use Rattle.net_core.specs.declared.network.Event.{Event}
-use Rattle.net_core.specs.declared.network.Event.TheVariants.{Get, Fire, Put}
+use Rattle.net_core.specs.declared.network.Event.TheVariants.{Get, Fire}
 use Rattle.net_core.specs.declared.refs.Ref.{Ref}
 use Rattle.net_core.specs.Machine.{net_of}
 use Rattle.net_core.specs.Shape.{fires, is_fire}
@@ -31,14 +31,12 @@ use Rattle.derived_names.proofs.Gets.{before_fire, events_before, events_more, e
 use Rattle.plain_data.proofs.Lists.{slice_get-append_left, slice_get-append_right}
 
 abbrev pub IsNoFire : Event → Type 0
-IsNoFire (Get c slot) = Unit {0}
 IsNoFire (Fire refs) = ⊥
-IsNoFire (Put c) = Unit {0}
+IsNoFire _ = Unit {0}
 
 get_is_none : (e : Event) → IsGet e → IsNoFire e
 get_is_none (Get c slot) h = tt
-get_is_none (Fire refs) h = absurd h
-get_is_none (Put c) h = absurd h
+get_is_none _ h = absurd h
 
 pub no_fire_first : (n : Nest) (p f : ℕ) → Each IsNoFire (point_gets n p f)
 no_fire_first n p f =
@@ -60,9 +58,8 @@ no_fire_behind c (plan ∷ plans) p f =
 
 none_fired : (es : List Event) → Each IsNoFire es → count_by is_fire es ≡ 0
 none_fired [] h = refl
-none_fired (Get c slot ∷ es) h = omega (arith, count_cons is_fire (Get c slot) es, none_fired es h.1)
 none_fired (Fire refs ∷ es) h = absurd h.0
-none_fired (Put c ∷ es) h = omega (arith, count_cons is_fire (Put c) es, none_fired es h.1)
+none_fired (x ∷ es) h = omega (arith, count_cons is_fire x es, none_fired es h.1)
 
 fired_by : (n : Nest) (p f : ℕ) → count_by is_fire (events_before n p f) ≡ f
 fired_by n p zero = refl

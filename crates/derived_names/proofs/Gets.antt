@@ -58,8 +58,7 @@ got-append c [] ys = refl
 got-append c (Get channel slot ∷ xs) ys =
     let later = got-append c xs ys in
     elim (cases_Bool (c == channel)) [ inl this ↦ rw this (ap (λ zs. slot ∷ zs) later) | inr other ↦ rw other later ]
-got-append c (Fire refs ∷ xs) ys = got-append c xs ys
-got-append c (Put channel ∷ xs) ys = got-append c xs ys
+got-append c (x ∷ xs) ys = got-append c xs ys
 
 -- as many as the Gets
 pub got_count : (c : ℕ) (es : List Event) → length (slots_got c es) ≡ count_by (is_get c) es
@@ -77,8 +76,7 @@ got_count c (Get channel slot ∷ es) =
           let rest = ap (λ b. length (cond b (slot ∷ slots_got c es) (slots_got c es))) other in
           omega (arith, counted, none, rest, later)
     ]
-got_count c (Fire refs ∷ es) = omega (arith, count_cons (is_get c) (Fire refs) es, got_count c es)
-got_count c (Put channel ∷ es) = omega (arith, count_cons (is_get c) (Put channel) es, got_count c es)
+got_count c (x ∷ es) = omega (arith, count_cons (is_get c) x es, got_count c es)
 
 -- and each in its place
 pub got_at : (c : ℕ) (es : List Event) (k slot : ℕ) → slice_get es k ≡ Some (Get c slot)
@@ -105,13 +103,9 @@ got_at c (Get channel x ∷ es) (suc k) slot e =
           ∙ ap (λ b. slice_get (cond b (x ∷ slots_got c es) (slots_got c es)) (count_by (is_get c) (take k es))) other
           ∙ later
     ]
-got_at c (Fire refs ∷ es) (suc k) slot e =
-    let same : count_by (is_get c) (Fire refs ∷ take k es) ≡ count_by (is_get c) (take k es) =
-    omega (arith, count_cons (is_get c) (Fire refs) (take k es)) in
-    ap (slice_get (slots_got c es)) same ∙ got_at c es k slot e
-got_at c (Put channel ∷ es) (suc k) slot e =
-    let same : count_by (is_get c) (Put channel ∷ take k es) ≡ count_by (is_get c) (take k es) =
-    omega (arith, count_cons (is_get c) (Put channel) (take k es)) in
+got_at c (x ∷ es) (suc k) slot e =
+    let same : count_by (is_get c) (x ∷ take k es) ≡ count_by (is_get c) (take k es) =
+    omega (arith, count_cons (is_get c) x (take k es)) in
     ap (slice_get (slots_got c es)) same ∙ got_at c es k slot e
 
 -- The slots of a point
@@ -272,8 +266,7 @@ module _ (n : Nest) (p k w c : ℕ) (found : slice_get (plans_of n) c ≡ Some (
             ∙ got_mapped c c place (range_with_len from (gets_for_uses (slot_plan used) (suc q) - from))
             ∙ ap (λ b. cond b (map place (range_with_len from (gets_for_uses (slot_plan used) (suc q) - from))) [])
             (eq-eqb c c refl)
-            ∙ ap (λ m. map place (range_with_len from (m - from))) needed
-            ∙ ap (λ a. map place (range_with_len a (gets_made (suc f) - a))) done
+            ∙ (λ i. map place (range_with_len (done i) (needed i - done i)))
         | inr other ↦ other_source f t e other (usage n p f k) refl
             ∙ none_got f (uses_same f (Some t) e (turn_of-foreign w t other))
       ]
@@ -304,13 +297,13 @@ module _ (n : Nest) (p k w c : ℕ) (found : slice_get (plans_of n) c ≡ Some (
   points_got zero le = refl
   points_got (suc f) le =
       let before = points_got f (omega arith) in
+      let here = point_got f (omega arith) in
       let front : 0 + gets_made f ≡ gets_made f = omega arith in
       let whole : gets_made f + (gets_made (suc f) - gets_made f) ≡ gets_made (suc f) =
       omega (arith, gets_grow f (omega arith)) in
       ap (slots_got c) (events_more n p f)
       ∙ got-append c (events_before n p f) (point_events n p f)
-      ∙ ap (λ xs. xs ++ slots_got c (point_events n p f)) before
-      ∙ ap (λ xs. map place (range_with_len 0 (gets_made f)) ++ xs) (point_got f (omega arith))
+      ∙ (λ i. before i ++ here i)
       ∙ ap (λ a. map place (range_with_len 0 (gets_made f))
       ++ map place (range_with_len a (gets_made (suc f) - gets_made f))) (sym front)
       ∙ sym (map-append place (range_with_len 0 (gets_made f))

@@ -4,12 +4,12 @@
 -- By induction on the place, down to Get m itself: a Get of another slot leaves what x has, and one into x would be m.
 -- The three premises are what a plan of slots gives (`IsLastInto`), so nothing is known here of nests. `latest_gets`
 -- is a table that goes along the script, and this reads one entry of it.
-use Rattle.std.proofs.Common.{◌≡◌, ℕ, zero, suc, ◌<◌, ◌≤◌, cond, Option, Some, None, take, slice_get}
-use Rattle.std.proofs.Common.{count_by, refl, sym, ap, ◌∙◌, inl, inr, arith}
+use Rattle.std.proofs.Common.{◌≡◌, ℕ, zero, suc, ◌<◌, ◌≤◌, cond, Option, Some, None, take, slice_get, count_by, refl}
+use Rattle.std.proofs.Common.{sym, ap, ◌∙◌, inl, inr, arith}
 use Rattle.std.specs.Prelude.{slice_set}
 use Rattle.std.proofs.lemmas.Bool.{cases_eq, eq-eqb, ne_eqb}
 use Rattle.net_core.specs.declared.network.Event.{Event}
-use Rattle.net_core.specs.declared.network.Event.TheVariants.{Get, Fire, Put}
+use Rattle.net_core.specs.declared.network.Event.TheVariants.{Get}
 use Rattle.net_core.specs.Machine.{Net}
 use Rattle.net_core.specs.Names.{latest_gets, with_get}
 use Rattle.net_core.specs.Shape.{is_get}
@@ -32,9 +32,6 @@ module _ (n : Net) (p c m x end : ℕ) (is : IsLastInto n p c m x end) where
       → (m < count_by (is_get c) (take k (n.script p)) → slice_get (latest_gets n p k) x ≡ Some (Some (c, m)))
       → slice_get (with_get n p k e (latest_gets n p k)) x ≡ Some (Some (c, m))
   after k None below e got before = before (omega (arith, count_none (is_get c) (n.script p) k e))
-  after k (Some (Fire refs)) below e got before =
-      before (omega (arith, count_next (is_get c) (n.script p) k (Fire refs) e))
-  after k (Some (Put d)) below e got before = before (omega (arith, count_next (is_get c) (n.script p) k (Put d) e))
   after k (Some (Get d slot)) below e got before =
       let slots = latest_gets n p k in
       let new : Option (ℕ × ℕ) = Some (d, count_by (is_get d) (take k (n.script p))) in
@@ -60,6 +57,7 @@ module _ (n : Net) (p c m x end : ℕ) (is : IsLastInto n p c m x end) where
             slice_get-set_other slots slot x new (λ into. is.other k d slot e (λ same. apart (sym same)) (sym into))
             ∙ before (omega (arith, counted, none))
       ]
+  after k (Some x) below e got before = before (omega (arith, count_next (is_get c) (n.script p) k x e))
 
   -- so it is the latest Get of the slot
   pub latest : (k : ℕ) → k ≤ end → m < count_by (is_get c) (take k (n.script p))

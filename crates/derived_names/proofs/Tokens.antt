@@ -89,8 +89,7 @@ tokens_from net c front (e ∷ rest) whole =
     one_event net c (length front) (count_by is_fire front) e rest (tokens_before net c (length front)) done
     ∙ ap (λ o. with_token net c (length front) o (tokens_before net c (length front))
     ++ tokens_in c w (count_by is_fire front + cond (is_fire e) 1 0) rest) (sym there)
-    ∙ ap (λ k. tokens_before net c k ++ tokens_in c w (count_by is_fire front + cond (is_fire e) 1 0) rest) (sym longer)
-    ∙ ap (λ m. tokens_before net c (length (front ++ e ∷ [])) ++ tokens_in c w m rest) (sym counted)
+    ∙ (λ i. tokens_before net c (sym longer i) ++ tokens_in c w (sym counted i) rest)
     ∙ tokens_from net c (front ++ e ∷ []) rest (whole ∙ sym (append_assoc front (e ∷ []) rest))
 
 -- The tokens of one point
@@ -99,8 +98,7 @@ none_got : (c w done : ℕ) (gets rest : List Event) → Each IsGet gets
     → tokens_in c w done (gets ++ rest) ≡ tokens_in c w done rest
 none_got c w done [] rest h = refl
 none_got c w done (Get d slot ∷ gets) rest h = none_got c w done gets rest h.1
-none_got c w done (Fire refs ∷ gets) rest h = absurd h.0
-none_got c w done (Put d ∷ gets) rest h = absurd h.0
+none_got c w done (x ∷ gets) rest h = absurd h.0
 
 -- no later channel's Put is one of channel c
 none_put : (c d w done f : ℕ) (plans : List ChannelPlan) (rest : List Event) → c < d
@@ -110,12 +108,9 @@ none_put c d w done f (plan ∷ plans) rest lt =
     let later : tokens_in c w done (puts_from (suc d) plans w f ++ rest) ≡ tokens_in c w done rest =
     none_put c (suc d) w done f plans rest (omega arith) in
     let other : eqb c d ≡ false = ne_eqb c d (λ e. omega arith) in
-    elim (cases_Bool (eqb plan.writer w)) [
-      | inl own ↦ elim (cases_Bool (get_or plan.is_token f false)) [
-        | inl token ↦ rw (own, token, other) later
-        | inr token ↦ rw (own, token) later
-      ]
-      | inr own ↦ rw own later
+    elim (cases_Bool (eqb plan.writer w && get_or plan.is_token f false)) [
+      | inl put ↦ rw (put, other) later
+      | inr none ↦ rw none later
     ]
 
 one_put : (c d j w done f : ℕ) (plans : List ChannelPlan) (plan : ChannelPlan) (rest : List Event)
@@ -145,12 +140,9 @@ one_put c d zero w done f (first ∷ plans) plan rest e number own =
 one_put c d (suc j) w done f (first ∷ plans) plan rest e number own =
     let later = one_put c (suc d) j w done f plans plan rest e (omega arith) own in
     let other : eqb c d ≡ false = ne_eqb c d (λ same. omega arith) in
-    elim (cases_Bool (eqb first.writer w)) [
-      | inl written ↦ elim (cases_Bool (get_or first.is_token f false)) [
-        | inl token ↦ rw (written, token, other) later
-        | inr token ↦ rw (written, token) later
-      ]
-      | inr written ↦ rw written later
+    elim (cases_Bool (eqb first.writer w && get_or first.is_token f false)) [
+      | inl put ↦ rw (put, other) later
+      | inr none ↦ rw none later
     ]
 
 -- The tokens of a script

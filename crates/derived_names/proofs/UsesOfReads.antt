@@ -21,8 +21,7 @@ use Rattle.sanlp.specs.Access.{read_count}
 use Rattle.sanlp.specs.declared.nest.Nest.{Nest}
 use Rattle.sanlp.specs.declared.nest.Tag.{Tag}
 use Rattle.sanlp.proofs.Each.{Each, each_filter, each_map, each_of}
-use Rattle.sanlp.proofs.Members.{Pairwise, at_in, each_in, in_at}
-use Rattle.sanlp.proofs.Members.{pairwise_flat_map, range_with_len_ascends}
+use Rattle.sanlp.proofs.Members.{Pairwise, at_in, each_in, in_at, pairwise_flat_map, range_with_len_ascends}
 use Rattle.sanlp.proofs.Lists.{flat_map-range_with_len_more}
 use Rattle.channel_plan.specs.declared.plans.ChannelPlan.{ChannelPlan}
 use Rattle.channel_plan.specs.Plans.{plan_of, plans_at, plans_of, sources_at, turn_count}
@@ -353,15 +352,12 @@ found_between n w p k found e =
     let own = each_in (IsPlanOf n) found.1 (plans_of n) (plans_are n) member in
     let exists = each_in (IsChannelOf n) found.1 (plans_of n) (all_channels n) member in
     let same : found.1 ≡ plan_of n p k w =
-    own.plan_is ∙ ap (λ q. plan_of n q found.1.read found.1.writer) is.ends.reader
-    ∙ ap (λ j. plan_of n p j found.1.writer) is.ends.read ∙ ap (plan_of n p k) is.ends.writer in
+    own.plan_is ∙ (λ i. plan_of n (is.ends.reader i) (is.ends.read i) (is.ends.writer i)) in
     record {
       plan_is = same;
       there = is.there ∙ ap Some same;
       is_read =
-          ap (λ q. list_any (is_from w) (sources_at n q k)) (sym is.ends.reader)
-          ∙ ap (λ j. list_any (is_from w) (sources_at n found.1.reader j)) (sym is.ends.read)
-          ∙ ap (λ v. list_any (is_from v) (sources_at n found.1.reader found.1.read)) (sym is.ends.writer)
+          (λ i. list_any (is_from (sym is.ends.writer i)) (sources_at n (sym is.ends.reader i) (sym is.ends.read i)))
           ∙ own.is_read;
       process = omega (arith, exists.reader, is.ends.reader);
       read = omega (arith, exists.read, is.ends.read, ap (read_count n) is.ends.reader);

@@ -1,7 +1,6 @@
 pub mod Phrases
 pub mod Written
+pub mod Spelling
 pub mod SpelledExpressions
 pub mod SpelledSources
-pub mod Within
 pub mod Texts
-pub mod ByKind

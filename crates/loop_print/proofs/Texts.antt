@@ -2,13 +2,12 @@
 --
 -- Each word that stands for a token has a text that is a token, and the lexer's lexeme of that text is the word again
 -- (`writable`, `read_back`). The words of a tree that has a source are such words, since those of the source are and
--- the tree's are among them (`Within`), and there are no more than the source has, so within the limit. So the text's
--- sentence is the words, numbered from 0, and these derive the tree again (`SpelledSources`). What the lexer does with
+-- the tree's come from them, and there are no more than the source has, so within the limit. So the text's sentence is
+-- the words, numbered from 0, and these derive the tree again (`SpelledSources`). What the lexer does with
 -- texts that are written with spaces behind is a hypothesis (`ReadsSpaced`, `KeepsTexts`), and so is what tokens keep
 -- (`KeepsTokens`).
-use Rattle.std.proofs.Common.{rules, ◌≡◌, ℕ, ◌+◌, ◌*◌, ◌-◌, ◌^◌, ◌<◌, ◌≤◌, pos, negsuc, Bool, true, false, not}
-use Rattle.std.proofs.Common.{◌&&◌, ◌||◌, List, [], ◌∷◌, fold, map, length, refl, sym, ap, subst, ◌∙◌, arith, All}
-use Rattle.std.proofs.Common.{nat_lt, Ok}
+use Rattle.std.proofs.Common.{rules, ◌≡◌, ℕ, ◌+◌, ◌*◌, ◌-◌, ◌^◌, ◌<◌, ◌≤◌, pos, negsuc, Bool, true, false, not, ◌&&◌}
+use Rattle.std.proofs.Common.{◌||◌, List, [], ◌∷◌, fold, map, length, refl, sym, ap, subst, ◌∙◌, arith, All, nat_lt, Ok}
 use Rattle.std.specs.Fmt.{decimal}
 use Rattle.std.specs.List.{list_all, list_any}
 use Rattle.std.specs.Str.{bytes_eq}
@@ -29,19 +28,18 @@ use Rattle.loop_lex.specs.declared.token.TokenKind.{TokenKind}
 use Rattle.loop_lex.specs.declared.token.TokenKind.TheVariants as kind
 use Rattle.loop_grammar.specs.declared.lexeme.Lexeme.{Lexeme}
 use Rattle.loop_grammar.specs.declared.lexeme.Lexeme.TheVariants as word
-use Rattle.loop_grammar.specs.declared.lexeme.Choice.TheVariants.{Min, Max}
-use Rattle.loop_grammar.specs.declared.tree.CompareSign.TheVariants.{Less, LessEq, Greater, GreaterEq, Equal}
-use Rattle.loop_grammar.specs.declared.tree.DeclWord.TheVariants.{Param, Input, Output, Both, Var}
+use Rattle.loop_grammar.specs.declared.lexeme.Choice.TheVariants.{Min}
+use Rattle.loop_grammar.specs.declared.tree.CompareSign.TheVariants.{Less}
+use Rattle.loop_grammar.specs.declared.tree.DeclWord.TheVariants.{Param}
 use Rattle.loop_grammar.specs.declared.tree.Tree.{Tree}
-use Rattle.loop_grammar.specs.Grammar.{Tok, Program, program_text, program_tree, Derives}
+use Rattle.loop_grammar.specs.Grammar.{Program, program_text, program_tree, Derives}
 use Rattle.loop_grammar.specs.Lexemes.{reserved_lexeme, bracket_lexeme, comparison_lexeme, sign_lexeme, lexeme_of}
 use Rattle.loop_grammar.specs.Lexemes.{lexeme_at, numbered_from, sentence}
 use Rattle.loop_grammar.proofs.Lexemes.{length-sentence}
 use Rattle.loop_print.specs.Printing.{lexeme_text, written, tree_words}
-use Rattle.loop_print.specs.Numbers.{without_token_numbers}
 use Rattle.loop_print.specs.ReadBack.{HasSource, ReadsBackAs}
 use Rattle.loop_print.proofs.SpelledSources.{spelled_program}
-use Rattle.loop_print.proofs.Within.{IsTokenWord, AreTokenWords, AreTokens, Within, program_within}
+use Rattle.loop_print.proofs.Spelling.{Each, IsTokenWord, AreTokenWords, AreTokens, Within}
 use Rattle.plain_data.specs.Digits.{decimal_number}
 
 -- ---- names
@@ -105,38 +103,11 @@ writable (word.Name text) h = name_writable text h.0
 writable (word.Number (pos n)) h =
     number_writable (decimal n) (decimal_digits n h) (not_large n (decimal_number (decimal n)) h (decimal_value n h))
 writable (word.Number (negsuc n)) h = absurd h
-writable (word.Declare Param) h = refl
-writable (word.Declare Input) h = refl
-writable (word.Declare Output) h = refl
-writable (word.Declare Both) h = refl
-writable (word.Declare Var) h = refl
-writable word.Int h = refl
-writable word.For h = refl
-writable word.If h = refl
-writable word.Else h = refl
-writable (word.Choice Min) h = refl
-writable (word.Choice Max) h = refl
-writable word.Open h = refl
-writable word.Close h = refl
-writable word.OpenSquare h = refl
-writable word.CloseSquare h = refl
-writable word.OpenCurly h = refl
-writable word.CloseCurly h = refl
-writable word.Semi h = refl
-writable word.Comma h = refl
-writable word.Assign h = refl
-writable (word.Compare Less) h = refl
-writable (word.Compare LessEq) h = refl
-writable (word.Compare Greater) h = refl
-writable (word.Compare GreaterEq) h = refl
-writable (word.Compare Equal) h = refl
-writable word.Plus h = refl
-writable word.Minus h = refl
-writable word.Times h = refl
-writable word.Increment h = refl
-writable word.AddAssign h = refl
-writable word.And h = refl
 writable word.Other h = absurd h
+writable (word.Declare Param) h = refl
+writable (word.Choice Min) h = refl
+writable (word.Compare Less) h = refl
+writable _ h = refl
 
 -- what a text is to the grammar
 abbrev pub lexeme_of_text : List ℕ → Lexeme
@@ -158,38 +129,11 @@ read_back (word.Name text) h = name_read text h.0 h.1
 read_back (word.Number (pos n)) h =
     number_read (decimal n) (decimal_digits n h) ∙ ap (λ (m : ℕ). word.Number (pos m)) (decimal_value n h)
 read_back (word.Number (negsuc n)) h = absurd h
-read_back (word.Declare Param) h = refl
-read_back (word.Declare Input) h = refl
-read_back (word.Declare Output) h = refl
-read_back (word.Declare Both) h = refl
-read_back (word.Declare Var) h = refl
-read_back word.Int h = refl
-read_back word.For h = refl
-read_back word.If h = refl
-read_back word.Else h = refl
-read_back (word.Choice Min) h = refl
-read_back (word.Choice Max) h = refl
-read_back word.Open h = refl
-read_back word.Close h = refl
-read_back word.OpenSquare h = refl
-read_back word.CloseSquare h = refl
-read_back word.OpenCurly h = refl
-read_back word.CloseCurly h = refl
-read_back word.Semi h = refl
-read_back word.Comma h = refl
-read_back word.Assign h = refl
-read_back (word.Compare Less) h = refl
-read_back (word.Compare LessEq) h = refl
-read_back (word.Compare Greater) h = refl
-read_back (word.Compare GreaterEq) h = refl
-read_back (word.Compare Equal) h = refl
-read_back word.Plus h = refl
-read_back word.Minus h = refl
-read_back word.Times h = refl
-read_back word.Increment h = refl
-read_back word.AddAssign h = refl
-read_back word.And h = refl
 read_back word.Other h = absurd h
+read_back (word.Declare Param) h = refl
+read_back (word.Choice Min) h = refl
+read_back (word.Compare Less) h = refl
+read_back _ h = refl
 
 -- ---- texts of words
 
@@ -199,51 +143,30 @@ all_writable (w ∷ ws) h = rw (writable w h.0) (all_writable ws h.1)
 
 all_read : (ws : List Lexeme) → AreTokenWords ws → map lexeme_of_text (map lexeme_text ws) ≡ ws
 all_read [] h = refl
-all_read (w ∷ ws) h =
-    ap (λ (x : Lexeme). x ∷ map lexeme_of_text (map lexeme_text ws)) (read_back w h.0)
-    ∙ ap (λ (xs : List Lexeme). w ∷ xs) (all_read ws h.1)
-
-first_or : List ℕ → List (List ℕ) → List ℕ
-first_or d [] = d
-first_or d (x ∷ xs) = x
-
-others : List (List ℕ) → List (List ℕ)
-others [] = []
-others (x ∷ xs) = xs
-
-first_is : (x y : List ℕ) (xs ys : List (List ℕ)) → x ∷ xs ≡ y ∷ ys → x ≡ y
-unfolding first_or
-first_is x y xs ys e = ap (first_or []) e
-
-others_are : (x y : List ℕ) (xs ys : List (List ℕ)) → x ∷ xs ≡ y ∷ ys → xs ≡ ys
-unfolding others
-others_are x y xs ys e = ap others e
+all_read (w ∷ ws) h = λ i. read_back w h.0 i ∷ all_read ws h.1 i
 
 lexemes_at : (bytes : List ℕ) (at : ℕ) (texts : List (List ℕ)) → map (text_of bytes) (spaced_tokens at texts) ≡ texts
     → map (lexeme_at bytes) (spaced_tokens at texts) ≡ map lexeme_of_text texts
 unfolding lexeme_at
 lexemes_at bytes at [] e = refl
 lexemes_at bytes at (text ∷ texts) e =
-    ap (λ (s : List ℕ). lexeme_of (kind_of text) s ∷ map (lexeme_at bytes) (spaced_tokens (at + length text + 1) texts))
-    (first_is (text_of bytes (token_at at text)) text
-    (map (text_of bytes) (spaced_tokens (at + length text + 1) texts)) texts e)
-    ∙ ap (λ (xs : List Lexeme). lexeme_of_text text ∷ xs)
-    (lexemes_at bytes (at + length text + 1) texts
-    (others_are (text_of bytes (token_at at text)) text
-    (map (text_of bytes) (spaced_tokens (at + length text + 1) texts)) texts e))
+    let own : text_of bytes (token_at at text) ≡ text = cc in
+    let others : map (text_of bytes) (spaced_tokens (at + length text + 1) texts) ≡ texts = cc in
+    λ i. lexeme_of (kind_of text) (own i) ∷ lexemes_at bytes (at + length text + 1) texts others i
+
+-- the texts of tokens that were written with spaces
+abbrev pub KeepsTexts : Type 0
+KeepsTexts = (texts : List (List ℕ)) → map (text_of (spaced texts)) (spaced_tokens 0 texts) ≡ texts
 
 -- the sentence of the text is the words, numbered from 0
-sentence_is : (ws : List Lexeme) → AreTokenWords ws
-    → map (text_of (written ws)) (spaced_tokens 0 (map lexeme_text ws)) ≡ map lexeme_text ws
+sentence_is : (ws : List Lexeme) → KeepsTexts → AreTokenWords ws
     → sentence (written ws) (spaced_tokens 0 (map lexeme_text ws)) ≡ numbered_from 0 ws
-unfolding sentence
-sentence_is ws h e = ap (numbered_from 0) (lexemes_at (written ws) 0 (map lexeme_text ws) e ∙ all_read ws h)
+unfolding sentence written
+sentence_is ws texts h =
+    let e = texts (map lexeme_text ws) in
+    ap (numbered_from 0) (lexemes_at (written ws) 0 (map lexeme_text ws) e ∙ all_read ws h)
 
 -- ---- the words of a source are tokens
-
-abbrev Each : (List ℕ → Type 0) → List (List ℕ) → Type 0
-Each P [] = Unit {0}
-Each P (x ∷ xs) = P x × Each P xs
 
 first_or_later : (P : List ℕ → Type 0) (text x : List ℕ) (first later : Bool) → bytes_eq text x ≡ first → P x
     → (later ≡ true → P text) → (first || later) ≡ true → P text
@@ -258,19 +181,13 @@ listed P text (x ∷ xs) h each =
     first_or_later P text x (bytes_eq text x) (list_any (bytes_eq text) xs) refl each.0
     (λ later. listed P text xs later each.1) h
 
-abbrev IsReservedToken : List ℕ → Type 0
-IsReservedToken text = IsTokenWord (reserved_lexeme text)
-
-reserved_word : (text : List ℕ) → is_reserved text ≡ true → IsReservedToken text
+reserved_word : (text : List ℕ) → is_reserved text ≡ true → IsTokenWord (reserved_lexeme text)
 unfolding reserved_lexeme
-reserved_word text h = listed IsReservedToken text reserved_words h (search rules)
+reserved_word text h = listed (λ s. IsTokenWord (reserved_lexeme s)) text reserved_words h (search rules)
 
-abbrev IsSignToken : List ℕ → Type 0
-IsSignToken text = IsTokenWord (sign_lexeme text)
-
-sign_word : (text : List ℕ) → is_sign text ≡ true → IsSignToken text
+sign_word : (text : List ℕ) → is_sign text ≡ true → IsTokenWord (sign_lexeme text)
 unfolding sign_lexeme comparison_lexeme bracket_lexeme
-sign_word text h = listed IsSignToken text signs h (search rules)
+sign_word text h = listed (λ s. IsTokenWord (sign_lexeme s)) text signs h (search rules)
 
 token_word : (k : TokenKind) (text : List ℕ) → IsKindOf k text → IsTokenWord (lexeme_of k text)
 token_word kind.Name text h = h
@@ -304,9 +221,6 @@ ReadsSpaced =
     (texts : List (List ℕ)) → are_token_texts texts ≡ true → length texts ≤ token_limit
     → tokens (spaced texts) ≡ Ok (spaced_tokens 0 texts)
 
-abbrev pub KeepsTexts : Type 0
-KeepsTexts = (texts : List (List ℕ)) → map (text_of (spaced texts)) (spaced_tokens 0 texts) ≡ texts
-
 words_read : (ws : List Lexeme) → ReadsSpaced → AreTokenWords ws → length ws ≤ token_limit
     → tokens (written ws) ≡ Ok (spaced_tokens 0 (map lexeme_text ws))
 unfolding written
@@ -314,31 +228,22 @@ words_read ws reads valid short =
     let e : length (map lexeme_text ws) ≡ length ws =
     length-map ws lexeme_text in reads (map lexeme_text ws) (all_writable ws valid) (omega (arith, e, short))
 
-words_kept : (ws : List Lexeme) → KeepsTexts
-    → map (text_of (written ws)) (spaced_tokens 0 (map lexeme_text ws)) ≡ map lexeme_text ws
-unfolding written
-words_kept ws texts = texts (map lexeme_text ws)
-
 of_program : (p : Program) (source : List ℕ) (found : List Token) → KeepsTokens → ReadsSpaced → KeepsTexts
     → tokens source ≡ Ok found → program_text p ≡ sentence source found
     → ReadsBackAs (written (tree_words (program_tree p))) (program_tree p)
 of_program p source found keeps reads texts read text =
-    let kept : AreTokensOf source found = keeps source found read in
-    let within : Within (tree_words (program_tree p)) (program_text p) = program_within p in
-    let valid : AreTokenWords (tree_words (program_tree p)) =
-    within.valid (subst AreTokens (sym text) (sentence_tokens source found kept)) in
-    let le : length (tree_words (program_tree p)) ≤ length (program_text p) = within.shorter in
-    let same : length (program_text p) ≡ length found = ap length text ∙ length-sentence source found in
-    let limit : length found ≤ token_limit = kept.limit in
-    let short : length (tree_words (program_tree p)) ≤ token_limit = omega (arith, le, same, limit) in
     let ws : List Lexeme = tree_words (program_tree p) in
-    let again : (again : Tree) × Derives (numbered_from 0 ws) again
-    × (without_token_numbers again ≡ without_token_numbers (program_tree p)) = spelled_program p in (
+    let kept : AreTokensOf source found = keeps source found read in
+    let again = spelled_program p 0 in
+    let within : Within ws (program_text p) = again.tokens.within in
+    let valid : AreTokenWords ws = within.valid (rw text (sentence_tokens source found kept)) in
+    let short : length ws ≤ token_limit
+    = omega (arith, within.shorter, ap length text, length-sentence source found, kept.limit) in (
       spaced_tokens 0 (map lexeme_text ws),
-      again.0,
+      program_tree again.new,
       words_read ws reads valid short,
-      subst (λ (ts : List Tok). Derives ts again.0) (sym (sentence_is ws valid (words_kept ws texts))) again.1,
-      again.2,
+      (again.new, again.tokens.is ∙ sym (sentence_is ws texts valid), refl),
+      again.same,
     )
 
 -- the text of a tree that has a source

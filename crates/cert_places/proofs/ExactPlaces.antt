@@ -23,7 +23,7 @@ use Rattle.cert_text.proofs.ReadBack.{whole_back, whole_forth}
 use Rattle.cert_places.specs.Fronts.{IsLine, lines_text}
 use Rattle.cert_places.specs.Places.{IsCutShort, IsDeepBehind, IsFront, IsLineAt, IsOutOfRangeAt, IsShallow, IsText}
 use Rattle.cert_places.specs.Places.{IsTooDeepAt, IsTooLong, IsWrongAt, pattern}
-use Rattle.cert_places.proofs.Decided.{TextStop, text_stop, whole_refused}
+use Rattle.cert_places.proofs.RefusalLines.{TextStop, text_stop, whole_refused}
 use Rattle.cert_places.proofs.Shapes.{Alike, Fate, Last, Outcome, deepens, grouped, passes, two_texts}
 use Rattle.cert_places.proofs.Splits.{no_more_lines, prefix_lines, same_place}
 use Rattle.cert_places.proofs.Texts.{Kept, TextShape, start, text_fate, text_outcome}

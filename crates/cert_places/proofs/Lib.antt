@@ -4,7 +4,7 @@ pub mod Shapes
 pub mod Trees
 pub mod Blocks
 pub mod Texts
-pub mod Decided
+pub mod RefusalLines
 pub mod Splits
 pub mod ExactPlaces
 mod Worked

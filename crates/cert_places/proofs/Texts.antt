@@ -6,7 +6,7 @@
 use Rattle.std.proofs.Common.{◌≡◌, inl, inr, ℕ, zero, suc, ◌+◌, ◌≤◌, ◌==◌, Bool, true, false, if◌then◌else◌, List, []}
 use Rattle.std.proofs.Common.{◌∷◌, ◌++◌, All, Ok, codes, decimal, length, append-nil, refl, sym, ap, subst, ◌∙◌, arith}
 use Rattle.std.specs.List.{flat_map}
-use Rattle.std.proofs.lemmas.List.Elements.{All-nil}
+use Rattle.std.proofs.lemmas.List.Elements.{All-nil, All-weaker}
 use Rattle.channel_class.specs.declared.UseOrder.TheVariants.{InOrder}
 use Rattle.int_polyhedra.specs.declared.system.Proof.{Proof, out-Proof}
 use Rattle.int_polyhedra.specs.declared.system.Proof.TheOpen as proof_layer
@@ -50,9 +50,6 @@ use Rattle.cert_places.proofs.Trees.{TreeShape, tree_reads}
 
 -- More levels
 
-all_more : {X : Type 0} (P Q : X → Type 0) → ((x : X) → P x → Q x) → (xs : List X) → All P xs → All Q xs
-all_more P Q k xs all n x inside = k _ (all n x inside)
-
 proof_layer_more : (P Q : Proof → Type 0) → ((p : Proof) → P p → Q p) → (y : proof_layer.Proof-F Proof)
     → ProofStepIsInRange P y → ProofStepIsInRange Q y
 proof_layer_more P Q k (proof_layer.Sum terms) r = r
@@ -71,9 +68,9 @@ node_more : (low high : ℕ) → low ≤ high → (P Q : Tree → Type 0) → ((
 node_more low high up P Q k (tree_layer.Test form a b) r = (r.0, k a r.1, k b r.2)
 node_more low high up P Q k (tree_layer.Divides form divisor a b) r = (r.0, k a r.1, k b r.2)
 node_more low high up P Q k (tree_layer.Writer statement place proofs) r =
-    (r.0, record { count = r.1.count; each = all_more _ _ (proof_more low high up) proofs r.1.each })
+    (r.0, record { count = r.1.count; each = All-weaker _ _ (proof_more low high up) proofs r.1.each })
 node_more low high up P Q k (tree_layer.Zero proofs) r =
-    record { count = r.count; each = all_more _ _ (proof_more low high up) proofs r.each }
+    record { count = r.count; each = All-weaker _ _ (proof_more low high up) proofs r.each }
 node_more low high up P Q k (tree_layer.Dead p) r = proof_more low high up p r
 
 tree_more : (low high : ℕ) → low ≤ high → (n m : ℕ) → n ≤ m → (t : Tree) → TreeNestsTo low n t → TreeNestsTo high m t
@@ -92,7 +89,7 @@ module _ {T : Type 0} (P : T → Type 0) where
   layer_more : (A B : BlockPart T → Type 0) → ((p : BlockPart T) → A p → B p)
       → (y : layer.BlockPart-F T (BlockPart T) (Blocks T)) → LayerIsInRange P A y → LayerIsInRange P B y
   layer_more A B k (layer.Item x) r = r
-  layer_more A B k (layer.Repeat count body) r = (r.0, all_more A B k body.parts r.1)
+  layer_more A B k (layer.Repeat count body) r = (r.0, All-weaker A B k body.parts r.1)
 
   part_more : (n m : ℕ) → n ≤ m → (p : BlockPart T) → PartIsInRange P n p → PartIsInRange P m p
   unfolding PartIsInRange
@@ -117,19 +114,19 @@ nests_more version f n m more k =
       process_count = k.process_count;
       channel_count = k.channel_count;
       source_count = k.source_count;
-      processes = all_more (ProcessIsInRange (repeat_levels version n)) (ProcessIsInRange (repeat_levels version m))
+      processes = All-weaker (ProcessIsInRange (repeat_levels version n)) (ProcessIsInRange (repeat_levels version m))
           (λ p r. record {
             slots = r.slots;
             script = record {
               count = r.script.count;
-              parts = all_more _ _ (part_more EventIsInRange _ _ up) p.script.parts r.script.parts;
+              parts = All-weaker _ _ (part_more EventIsInRange _ _ up) p.script.parts r.script.parts;
             };
           }) f.processes k.processes;
       channels = k.channels;
-      sources = all_more _ _ (origin_more n m more) f.sources k.sources;
+      sources = All-weaker _ _ (origin_more n m more) f.sources k.sources;
       schedule = record {
         count = k.schedule.count;
-        parts = all_more _ _ (part_more IsInRange _ _ up) f.schedule.parts k.schedule.parts;
+        parts = All-weaker _ _ (part_more IsInRange _ _ up) f.schedule.parts k.schedule.parts;
       };
     }
 

@@ -28,7 +28,7 @@ use Rattle.call_endings.specs.Outcomes.{Outcome, outcome_of}
 use Rattle.call_endings.specs.Reads.{ReadsFor, ReadsTo, bundle_limit}
 use Rattle.compaan_top.specs.Answers.{Ends, IsRead}
 use Rattle.command_answers.specs.Checking.{Checks, verdict_reply, part_missing, source_refused, unread, judged}
-use Rattle.compaan_top.specs.Certified.{Accepts}
+use Rattle.compaan_top.specs.CheckAnswers.{Accepts}
 use Rattle.compaan_top.specs.Headline.{AcceptsWhatFits, HasFittingCertificate, HasSoundCertificate, accepted}
 use Rattle.compaan_top.specs.Outcome.{IsOutcome, Performs, words_refused, bundle_refused, performed}
 use Rattle.command_answers.specs.Replies.{Reply}

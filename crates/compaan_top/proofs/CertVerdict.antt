@@ -36,17 +36,17 @@ use Rattle.std.specs.Prelude.{Contains, IfOk}
 use Rattle.std.proofs.lemmas.Option.{same_Some, none-some}
 use Rattle.witness_plan.specs.declared.schedules.Policy.{Policy}
 use Rattle.witness_plan.specs.Schedules.{planned_network}
-use Rattle.compaan_top.specs.Certified.{Accepts, AgreeOn, Call, Certifies, HasCertificate, ReadCertificate, StandsForPlanned, WroteCertificate}
+use Rattle.compaan_top.specs.CheckAnswers.{Accepts, AgreeOn, Call, Certifies, HasCertificate, ReadCertificate, StandsForPlanned, WroteCertificate}
 use Rattle.compaan_top.specs.Commands.{reads_of}
 use Rattle.compaan_top.specs.Headline.{HasFittingCertificate, SaysAccepted}
 use Rattle.call_endings.specs.Complaints.{refusal_status}
 use Rattle.call_endings.specs.Outcomes.{Outcome, outcome_of}
 use Rattle.compaan_top.specs.Outcome.{IsOutcome, Performs, words_refused, bundle_refused, performed}
-use Rattle.compaan_top.specs.Certifying.{PrintsCertificate, source_refused, printed}
+use Rattle.compaan_top.specs.CertOutcomes.{PrintsCertificate, source_refused, printed}
 use Rattle.command_answers.specs.Replies.{Reply}
 use Rattle.command_answers.specs.Source as sized
 use Rattle.command_answers.specs.Source.{Gives, GivesWithinSize, no_tokens, no_tree, not_bound, bound}
-use Rattle.compaan_top.specs.Told.{ComesTo, IsAnswered, IsTold}
+use Rattle.compaan_top.specs.InputBytes.{ComesTo, IsDecision, HasLeft}
 use Rattle.command_answers.specs.declared.refusal.Refusal.{Refusal}
 use Rattle.plain_data.proofs.Lists.{Contains-first, Contains-later}
 use Rattle.command_answers.specs.declared.status.Status.{Status}
@@ -285,7 +285,7 @@ fitting stands tokens_stay sentence_stays params policy bundle other text w has 
 
 -- ---- calls
 
-done_is_answered : (status : Status) → status ≡ Done → IsAnswered status
+done_is_answered : (status : Status) → status ≡ Done → IsDecision status
 done_is_answered status done = (λ input. cc, λ output. cc, λ memory. cc)
 
 -- what a sink gained is what was written on it
@@ -349,13 +349,13 @@ module _ (accepts : (check : Order) (bundle : List ℕ) → HasFittingCertificat
 
     pub accepts_calls : (cert check : Call) (bundle text : List ℕ)
         → AgreeOn (source_part bundle) cert.order.params check.order.params → WroteCertificate cert bundle text
-        → ReadCertificate check (certified (source_part bundle) text) → IsAnswered check.status
+        → ReadCertificate check (certified (source_part bundle) text) → IsDecision check.status
         → SaysAccepted check.output check.status
     accepts_calls cert check bundle text agree wrote read answered =
         let all : List ℕ = certified (source_part bundle) text in
         let first : ComesTo (Some cert.order) bundle cert.output cert.complaint cert.status =
         comes_to (Some cert.order) cert.input cert.output cert.complaint bundle cert.ended
-        (subst (λ (c : Command). IsTold (reads_of c) cert.input.old bundle) (sym wrote.command) wrote.left)
+        (subst (λ (c : Command). HasLeft (reads_of c) cert.input.old bundle) (sym wrote.command) wrote.left)
         (done_is_answered cert.status wrote.done) in
         let second : ComesTo (Some check.order) all check.output check.complaint check.status =
         comes_to (Some check.order) check.input check.output check.complaint all check.ended

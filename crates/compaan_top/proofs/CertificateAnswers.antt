@@ -11,7 +11,7 @@ use Rattle.witness_plan.specs.Schedules.{planned_network}
 use Rattle.command_answers.specs.Replies.{done}
 use Rattle.command_answers.specs.Source.{GivesWithinSize}
 use Rattle.command_answers.proofs.Stops.{nest_is}
-use Rattle.compaan_top.specs.Certifying.{PrintsCertificate, printed}
+use Rattle.compaan_top.specs.CertOutcomes.{PrintsCertificate, printed}
 
 pub prints_certificate : (policy : Policy) (params : List (List ℕ × ℤ)) (bundle source text : List ℕ) (nest : Nest)
     (network : Network) (cert : Cert) → source ≡ source_part bundle

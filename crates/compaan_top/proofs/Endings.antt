@@ -16,7 +16,7 @@ use Rattle.command_line.specs.declared.words.Command.TheVariants.{Run, Seq, Net,
 use Rattle.command_line.specs.declared.words.Order.{Order}
 use Rattle.compaan_top.specs.Answers.{IsRead}
 use Rattle.compaan_top.specs.Commands.{read_by, reads_of, waits, WaitsForNobody}
-use Rattle.compaan_top.specs.Certifying.{PrintsCertificate}
+use Rattle.compaan_top.specs.CertOutcomes.{PrintsCertificate}
 use Rattle.command_answers.specs.Judging.{Judges}
 use Rattle.command_answers.specs.Load.{Loads}
 use Rattle.command_answers.specs.Replies.{Reply, done}

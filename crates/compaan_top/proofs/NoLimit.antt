@@ -17,8 +17,8 @@ use Rattle.compaan_top.specs.Answers.{Ends}
 use Rattle.compaan_top.specs.Commands.{reads_of}
 use Rattle.compaan_top.specs.Laws.{HasParts, IsDone, IsNestFor, IsValid, IsWithinOwnLimit, IsWithinSizeFor, Succeeds}
 use Rattle.compaan_top.specs.Outcome.{IsOutcome, bundle_refused, performed, words_refused}
-use Rattle.compaan_top.specs.Telling.{GivesTrees}
-use Rattle.compaan_top.specs.Told.{ComesTo, IsAnswered, IsTold}
+use Rattle.compaan_top.specs.DepsOutcomes.{GivesTrees}
+use Rattle.compaan_top.specs.InputBytes.{ComesTo, IsDecision, HasLeft}
 use Rattle.compaan_top.proofs.SourceBytes.{comes_to}
 
 no_words : (order : Order) → ◌≡◌ {A = Option Order} (Some order) None → ⊥
@@ -31,7 +31,7 @@ done_is_no_limit : Done ≡ LimitPassed → ⊥
 done_is_no_limit is = cc
 
 -- the status of a passed limit is an answer
-limit_is_answered : IsAnswered LimitPassed
+limit_is_answered : IsDecision LimitPassed
 limit_is_answered = (λ is. cc, λ is. cc, λ is. cc)
 
 module _ (order : Order) (is : order.command ≡ Deps) (bundle : List ℕ) (trees : GivesTrees order.params bundle) where
@@ -60,17 +60,17 @@ module _ (order : Order) (is : order.command ≡ Deps) (bundle : List ℕ) (tree
 
   ends_unlimited : ((wanted : Option Order) (bundle : List ℕ) → Succeeds wanted bundle)
       → (input output complaint : Change) (status : Status) → Ends (Some order) input output complaint status
-      → IsTold (reads_of order.command) input.old bundle → status ≢ LimitPassed
+      → HasLeft (reads_of order.command) input.old bundle → status ≢ LimitPassed
   ends_unlimited succeeds input output complaint status ends told passed =
       let comes : ComesTo (Some order) bundle output complaint status =
       comes_to (Some order) input output complaint bundle ends told
-      (subst (λ (s : Status). IsAnswered s) (sym passed) limit_is_answered) in
+      (subst (λ (s : Status). IsDecision s) (sym passed) limit_is_answered) in
       outcome_unlimited succeeds comes.is (sym comes.has_status ∙ passed)
 
 -- what `deps` reads is told
 deps_told : (order : Order) (left : Option (List ℕ)) (bundle : List ℕ) → order.command ≡ Deps → left ≡ Some bundle
-    → IsTold (reads_of order.command) left bundle
-deps_told order left bundle is told = subst (λ (c : Command). IsTold (reads_of c) left bundle) (sym is) told
+    → HasLeft (reads_of order.command) left bundle
+deps_told order left bundle is told = subst (λ (c : Command). HasLeft (reads_of c) left bundle) (sym is) told
 
 pub call_unlimited : ((wanted : Option Order) (bundle : List ℕ) → Succeeds wanted bundle)
     → (wanted : Option Order) (input output complaint : Change) (status : Status) → Ends wanted input output complaint status

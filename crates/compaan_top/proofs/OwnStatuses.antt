@@ -29,8 +29,8 @@ use Rattle.call_endings.specs.Endings.{no_memory, read_fault, written, cut_short
 use Rattle.call_endings.specs.Outcomes.{Outcome, outcome_of}
 use Rattle.call_endings.specs.Reads.{Reads, source_alone, source_and_data, source_and_certificate, nothing}
 use Rattle.compaan_top.specs.Answers.{Ends}
-use Rattle.compaan_top.specs.Certifying as certify
-use Rattle.compaan_top.specs.Certifying.{PrintsCertificate}
+use Rattle.compaan_top.specs.CertOutcomes as certify
+use Rattle.compaan_top.specs.CertOutcomes.{PrintsCertificate}
 use Rattle.command_answers.specs.Checking as check
 use Rattle.command_answers.specs.Checking.{Checks, verdict_reply}
 use Rattle.compaan_top.specs.Commands.{read_by, reads_of}
@@ -46,8 +46,8 @@ use Rattle.command_answers.specs.Refusals.{byte_of, lex_refusal, bind_refusal}
 use Rattle.command_answers.specs.Replies.{Reply}
 use Rattle.command_answers.specs.Run.{Runs, IsInputs, run_text, source_refused, data_refused, answered}
 use Rattle.command_answers.specs.Simulating.{simulation_text}
-use Rattle.compaan_top.specs.Telling as telling
-use Rattle.compaan_top.specs.Telling.{TellsSources}
+use Rattle.compaan_top.specs.DepsOutcomes as telling
+use Rattle.compaan_top.specs.DepsOutcomes.{TellsSources}
 use Rattle.command_answers.specs.Tracing as tracing
 use Rattle.command_answers.specs.Tracing.{Traces}
 use Rattle.command_answers.specs.Trimming.{trimming_text}

@@ -2,7 +2,7 @@
 -- it, both are too long, and too long a bundle is refused whatever it holds.
 --
 -- So an outcome of what was read is an outcome of all that the source had, and a call that was answered comes to one
--- (`comes_to`): its three other ends have the statuses that `IsAnswered` excludes. For `check` this gives
+-- (`comes_to`): its three other ends have the statuses that `IsDecision` excludes. For `check` this gives
 -- that `accepted` is said exactly where the bundle is within the limit and has a sound certificate (`call_accepted`).
 -- That acceptance vouches for a fitting pair, that what fits is sound, and that what fits is accepted are hypotheses
 -- here (`Acceptance`).
@@ -25,7 +25,7 @@ use Rattle.compaan_top.specs.Commands.{read_by, reads_of}
 use Rattle.compaan_top.specs.Headline.{AcceptsWhatFits, IsAcceptable, SaysAccepted, accepted}
 use Rattle.compaan_top.specs.Laws.{IsDone, IsValid, Succeeds}
 use Rattle.compaan_top.specs.Outcome.{IsOutcome, words_refused, bundle_refused, performed}
-use Rattle.compaan_top.specs.Told.{ComesTo, IsAnswered, IsTold}
+use Rattle.compaan_top.specs.InputBytes.{ComesTo, IsDecision, HasLeft}
 use Rattle.compaan_top.proofs.Acceptance.{IsUndone, VouchesFor, WhatFitsIsSound, outcome_vouched, too_long, with_sound}
 
 -- what was read to the end is all
@@ -61,7 +61,7 @@ bundle_alike input read all reads is =
     ]
 
 read_alike : (reads : Reads) (input : Change) (read all : List ℕ) → ReadsFor reads input read
-    → IsTold reads input.old all → AreAlike read all
+    → HasLeft reads input.old all → AreAlike read all
 read_alike source_alone input read all gave is = bundle_alike input read all gave is
 read_alike source_and_data input read all gave is = bundle_alike input read all gave is
 read_alike source_and_certificate input read all gave is = bundle_alike input read all gave is
@@ -78,7 +78,7 @@ long_outcome wanted read all long longer (performed order answer ordered within 
     absurd (omega (arith, long, within))
 
 same_outcome : (wanted : Option Order) (input : Change) (read all : List ℕ) (outcome : Outcome)
-    → IsRead wanted input read → IsTold (read_by wanted) input.old all
+    → IsRead wanted input read → HasLeft (read_by wanted) input.old all
     → IsOutcome wanted read outcome → IsOutcome wanted all outcome
 same_outcome wanted input read all outcome gave told is =
     elim (read_alike (read_by wanted) input read all gave told) [
@@ -88,7 +88,7 @@ same_outcome wanted input read all outcome gave told is =
 
 pub comes_to : (wanted : Option Order) (input output complaint : Change) (bundle : List ℕ) {status : Status}
     → Ends wanted input output complaint status
-    → IsTold (read_by wanted) input.old bundle → IsAnswered status → ComesTo wanted bundle output complaint status
+    → HasLeft (read_by wanted) input.old bundle → IsDecision status → ComesTo wanted bundle output complaint status
 comes_to wanted input output complaint bundle (no_memory quiet taken writes) told answered = absurd (answered.2 refl)
 comes_to wanted input output complaint bundle (read_fault some fault taken writes) told answered =
     absurd (answered.0 refl)
@@ -146,19 +146,19 @@ accepted_exactly vouches sound accepts wanted output complaint bundle order stat
 
 -- what `check` reads is told
 pub check_told : (order : Order) (left : Option (List ℕ)) (bundle : List ℕ) → order.command ≡ Check → left ≡ Some bundle
-    → IsTold (reads_of order.command) left bundle
-check_told order left bundle is told = subst (λ (c : Command). IsTold (reads_of c) left bundle) (sym is) told
+    → HasLeft (reads_of order.command) left bundle
+check_told order left bundle is told = subst (λ (c : Command). HasLeft (reads_of c) left bundle) (sym is) told
 
 -- so does a call to `check`
 pub call_accepted : VouchesFor → WhatFitsIsSound
     → ((wanted : Option Order) (bundle : List ℕ) → AcceptsWhatFits wanted bundle)
     → (wanted : Option Order) (input output complaint : Change) (status : Status) → Ends wanted input output complaint status
     → (order : Order) → wanted ≡ Some order → order.command ≡ Check → (bundle : List ℕ) → input.old ≡ Some bundle
-    → IsAnswered status
+    → IsDecision status
     → SaysAccepted output status ↔ IsAcceptable order.params bundle
 call_accepted vouches sound accepts wanted input output complaint status ends order ordered is bundle told answered =
-    let whole : IsTold (read_by wanted) input.old bundle =
-    subst (λ (w : Option Order). IsTold (read_by w) input.old bundle) (sym ordered)
+    let whole : HasLeft (read_by wanted) input.old bundle =
+    subst (λ (w : Option Order). HasLeft (read_by w) input.old bundle) (sym ordered)
     (check_told order input.old bundle is told) in
     accepted_exactly vouches sound accepts wanted output complaint bundle order status ordered is
     (comes_to wanted input output complaint bundle ends whole answered)

@@ -49,8 +49,8 @@ use Rattle.bundle.specs.Parts.{certificate_part, data_part, source_part}
 use Rattle.command_line.specs.declared.words.Order.{Order}
 use Rattle.command_line.specs.declared.words.Command.{Command}
 use Rattle.command_line.specs.declared.words.Command.TheVariants.{Run, Seq, Net, Cert, Check, Deps, Vhdl, Load, Sim, Trim, Trace}
-use Rattle.compaan_top.specs.Certifying as certify
-use Rattle.compaan_top.specs.Certifying.{PrintsCertificate}
+use Rattle.compaan_top.specs.CertOutcomes as certify
+use Rattle.compaan_top.specs.CertOutcomes.{PrintsCertificate}
 use Rattle.command_answers.specs.Checking as check
 use Rattle.command_answers.specs.Checking.{Checks, verdict_reply}
 use Rattle.call_endings.specs.Complaints.{refusal_status}
@@ -78,8 +78,8 @@ use Rattle.command_answers.specs.Replies.{Reply}
 use Rattle.command_answers.specs.Refusals.{byte_of, lex_refusal, bind_refusal, size_refusal, data_refusal}
 use Rattle.command_answers.specs.Run.{Runs, IsInputs, run_text, source_refused, data_refused, answered}
 use Rattle.command_answers.specs.Simulating.{simulation_text}
-use Rattle.compaan_top.specs.Telling as telling
-use Rattle.compaan_top.specs.Telling.{IsSmallWhereSwept, IsSwept, TellsSources}
+use Rattle.compaan_top.specs.DepsOutcomes as telling
+use Rattle.compaan_top.specs.DepsOutcomes.{IsSmallWhereSwept, IsSwept, TellsSources}
 use Rattle.command_answers.specs.Tracing as tracing
 use Rattle.command_answers.specs.Tracing.{Traces}
 use Rattle.command_answers.specs.Trimming.{trimming_text}

@@ -10,14 +10,14 @@ use Rattle.command_answers.specs.Judging.{Judges}
 use Rattle.command_answers.specs.Replying.{as_reply}
 use Rattle.command_answers.specs.Replies.{done}
 use Rattle.command_answers.specs.Source.{Gives}
-use Rattle.compaan_top.specs.Telling.{HasSwept, TellsSources, source_refused, size_refused, told}
+use Rattle.compaan_top.specs.DepsOutcomes.{HasSwept, TellsSources, source_refused, size_refused, told}
 use Rattle.command_answers.specs.declared.answer.Answer.{Answer}
 use Rattle.command_answers.specs.declared.refusal.Refusal.{Refusal}
 use Rattle.command_answers.specs.declared.refusal.Stop.{Stop}
 use Rattle.command_answers.proofs.Stops.{Judges-Err}
 
-abbrev pub JudgesTold : List (List ℕ × ℤ) → List ℕ → Result Answer Stop → Type 0
-JudgesTold params bundle result = Judges (λ answer. TellsSources params bundle (as_reply answer)) result
+abbrev pub JudgesDeps : List (List ℕ × ℤ) → List ℕ → Result Answer Stop → Type 0
+JudgesDeps params bundle result = Judges (λ answer. TellsSources params bundle (as_reply answer)) result
 
 -- the source is the bundle's
 of_bundle : (params : List (List ℕ × ℤ)) (bundle source : List ℕ) (result : Result Nest Refusal)
@@ -27,14 +27,14 @@ of_bundle params bundle source result is gives = subst (λ (s : List ℕ). Gives
 
 pub told_without_nest : (params : List (List ℕ × ℤ)) (bundle source : List ℕ) (stop : Stop)
     → source ≡ source_part bundle
-    → Judges (Gives source params) (Err stop) → JudgesTold params bundle (Err stop)
+    → Judges (Gives source params) (Err stop) → JudgesDeps params bundle (Err stop)
 told_without_nest params bundle source stop is =
     Judges-Err (Gives source params) (λ answer. TellsSources params bundle (as_reply answer)) stop
     (λ refusal step. source_refused refusal (of_bundle params bundle source (Err refusal) is step))
 
 pub told_without_size : (params : List (List ℕ × ℤ)) (bundle source : List ℕ) (nest : Nest) (stop : Stop)
     → source ≡ source_part bundle → Gives source params (Ok nest)
-    → Judges (HasSwept nest) (Err stop) → JudgesTold params bundle (Err stop)
+    → Judges (HasSwept nest) (Err stop) → JudgesDeps params bundle (Err stop)
 told_without_size params bundle source nest stop is gives =
     Judges-Err (HasSwept nest) (λ answer. TellsSources params bundle (as_reply answer)) stop
     (λ refusal step.

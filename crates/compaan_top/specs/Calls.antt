@@ -1,7 +1,7 @@
 -- What one can rely on of a call of the program.
 use Rattle.std.specs.Prelude.{◌≡◌, ◌≢◌, ◌↔◌, ℕ, List, Option, Some}
 use Rattle.command_answers.specs.Statuses.{status_number}
-use Rattle.compaan_top.specs.Telling.{GivesTrees}
+use Rattle.compaan_top.specs.DepsOutcomes.{GivesTrees}
 use Rattle.command_answers.specs.declared.status.Status.{Status}
 use Rattle.command_answers.specs.declared.status.Status.TheVariants.{Done, LimitPassed}
 use Rattle.command_line.specs.declared.words.Command.TheVariants.{Check, Deps}
@@ -12,7 +12,7 @@ use Rattle.compaan_top.specs.Answers.{Ends}
 use Rattle.compaan_top.specs.Commands.{read_by, reads_of}
 use Rattle.compaan_top.specs.Headline.{HasSoundCertificate, IsAcceptable, SaysAccepted}
 use Rattle.compaan_top.specs.Laws.{HasStatusOf, IsDone, IsValid}
-use Rattle.compaan_top.specs.Told.{ComesTo, IsAnswered, IsTold}
+use Rattle.compaan_top.specs.InputBytes.{ComesTo, IsDecision, HasLeft}
 
 -- A call for this order, or with None for words that are refused, did this to its source and its two sinks, and answered this
 -- number.
@@ -30,15 +30,15 @@ pub record IsCallOf (wanted : Option Order) (input output complaint : Change) (n
       → (bundle : List ℕ) × ReadsTo input bundle × HasSoundCertificate order.params bundle
   -- what is left is of a source that tells its bytes: where no fault and no want of memory ended the call, it wrote what the
   -- order and these bytes come to
-  pub comes : (bundle : List ℕ) → IsTold (read_by wanted) input.old bundle → IsAnswered status
+  pub comes : (bundle : List ℕ) → HasLeft (read_by wanted) input.old bundle → IsDecision status
       → ComesTo wanted bundle output complaint status
   -- so it was done where nothing is to be refused
-  pub completes : (bundle : List ℕ) → IsTold (read_by wanted) input.old bundle
-      → (valid : IsValid wanted bundle) → IsAnswered status
+  pub completes : (bundle : List ℕ) → HasLeft (read_by wanted) input.old bundle
+      → (valid : IsValid wanted bundle) → IsDecision status
       → IsDone (reads_of valid.order.command) status
   -- and `check` wrote `accepted` exactly where the bundle is within its limit and has a sound certificate
   pub accepted : (order : Order) → wanted ≡ Some order → order.command ≡ Check
-      → (bundle : List ℕ) → input.old ≡ Some bundle → IsAnswered status
+      → (bundle : List ℕ) → input.old ≡ Some bundle → IsDecision status
       → SaysAccepted output status ↔ IsAcceptable order.params bundle
   -- `deps` passes no limit where each read of the source's nest has a tree, whatever the size of the nest
   pub unlimited : (order : Order) → wanted ≡ Some order → order.command ≡ Deps

@@ -21,7 +21,7 @@ use Rattle.compaan_top.specs.Outcome.{IsOutcome}
 use Rattle.command_answers.specs.Run.{IsInputs}
 use Rattle.command_answers.specs.Source.{Gives}
 use Rattle.command_answers.specs.Statuses.{is_one_of}
-use Rattle.compaan_top.specs.Telling.{IsSmallWhereSwept}
+use Rattle.compaan_top.specs.DepsOutcomes.{IsSmallWhereSwept}
 use Rattle.command_answers.specs.declared.status.Status.{Status}
 use Rattle.command_answers.specs.declared.status.Status.TheVariants.{BundleRefused, CertificateRefused, ClassRefused, DataRefused, Done, InputFailed, LimitPassed, NoMemory, OutputFailed, TextRefused, WordsRefused}
 

@@ -1,11 +1,11 @@
 pub mod Answers
 pub mod Calls
-pub mod Certified
-pub mod Certifying
+pub mod CertOutcomes
+pub mod CheckAnswers
 pub mod Commands
+pub mod DepsOutcomes
 pub mod Headline
+pub mod InputBytes
 pub mod Laws
 pub mod Outcome
 pub mod Planned
-pub mod Telling
-pub mod Told

@@ -4,7 +4,7 @@ use Rattle.std.specs.Prelude.{◌≡◌, ◌≢◌, ◌≤◌, ◌<◌, ℕ, Lis
 use Rattle.command_line.specs.declared.words.Command.{Command}
 use Rattle.command_line.specs.declared.words.Command.TheVariants.{Run, Seq, Net, Cert, Check, Deps, Vhdl, Load, Sim, Trim, Trace}
 use Rattle.command_line.specs.declared.words.Order.{Order}
-use Rattle.compaan_top.specs.Certifying.{PrintsCertificate}
+use Rattle.compaan_top.specs.CertOutcomes.{PrintsCertificate}
 use Rattle.command_answers.specs.Checking.{Checks}
 use Rattle.call_endings.specs.Outcomes.{Outcome, outcome_of}
 use Rattle.call_endings.specs.Reads.{bundle_limit, nothing}
@@ -15,7 +15,7 @@ use Rattle.command_answers.specs.Printing.{Prints, network_text}
 use Rattle.command_answers.specs.Replies.{Reply}
 use Rattle.command_answers.specs.Run.{Runs, run_text}
 use Rattle.command_answers.specs.Simulating.{simulation_text}
-use Rattle.compaan_top.specs.Telling.{TellsSources}
+use Rattle.compaan_top.specs.DepsOutcomes.{TellsSources}
 use Rattle.command_answers.specs.Tracing.{Traces}
 use Rattle.command_answers.specs.Trimming.{trimming_text}
 use Rattle.command_answers.specs.declared.refusal.Refusal.{Refusal}

@@ -1,7 +1,7 @@
 ghost use Rattle.std.specs.Prelude.{◌<◌, ◌^◌, length};
 ghost use Rattle.command_answers.specs.Judging.{Judges};
 ghost use Rattle.command_answers.specs.Replying.{JudgesTexts};
-ghost use Rattle.compaan_top.specs.Certifying.{PrintsCertificate};
+ghost use Rattle.compaan_top.specs.CertOutcomes.{PrintsCertificate};
 
 use bundle::parts_of;
 use command_answers::{CertificateAnswer, Stop, sized_nest};

@@ -8,7 +8,7 @@ ghost use Rattle.call_endings.specs.Changes.{Change};
 ghost use Rattle.call_endings.specs.Outcomes.{Outcome, outcome_of};
 ghost use Rattle.compaan_top.specs.Answers.{Ends};
 ghost use Rattle.compaan_top.specs.Calls.{IsCallOf};
-ghost use Rattle.compaan_top.specs.Certified.{Accepts, AgreeOn, Call, Certifies, HasCertificate, ReadCertificate, StandsForPlanned, WroteCertificate};
+ghost use Rattle.compaan_top.specs.CheckAnswers.{Accepts, AgreeOn, Call, Certifies, HasCertificate, ReadCertificate, StandsForPlanned, WroteCertificate};
 ghost use Rattle.command_answers.specs.Checking.{Checks};
 ghost use Rattle.compaan_top.specs.Headline.{AcceptsWhatFits, HasFittingCertificate, SaysAccepted};
 ghost use Rattle.command_answers.specs.Replies.{Reply};
@@ -17,7 +17,7 @@ ghost use Rattle.command_answers.specs.declared.refusal.Refusal.{Refusal};
 ghost use Rattle.command_answers.specs.declared.status.Status.{Status};
 ghost use Rattle.command_answers.specs.declared.status.Status.TheVariants.{Done, NoMemory};
 ghost use Rattle.compaan_top.specs.Laws.{DetermineStatus, HasStatusOf, HaveOwnStatuses, MayEndWith, Succeeds};
-ghost use Rattle.compaan_top.specs.Told.{IsAnswered};
+ghost use Rattle.compaan_top.specs.InputBytes.{IsDecision};
 
 use bundle::{
     certified_bundle_has_its_parts, line_end_changes_no_token, line_end_makes_no_separator,
@@ -100,7 +100,7 @@ pub fn what_cert_writes_is_accepted()
         → AgreeOn (source_part bundle) cert.order.params check.order.params
         → WroteCertificate cert bundle text
         → ReadCertificate check (certified (source_part bundle) text)
-        → IsAnswered check.status → SaysAccepted check.output check.status }
+        → IsDecision check.status → SaysAccepted check.output check.status }
 {
     what_fits_is_accepted();
     certificate_has_text();

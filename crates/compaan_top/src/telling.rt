@@ -1,7 +1,7 @@
 ghost use Rattle.std.specs.Prelude.{◌<◌, ◌^◌, length};
 ghost use Rattle.command_answers.specs.Judging.{Judges};
 ghost use Rattle.command_answers.specs.Replying.{as_reply};
-ghost use Rattle.compaan_top.specs.Telling.{HasSwept, TellsSources};
+ghost use Rattle.compaan_top.specs.DepsOutcomes.{HasSwept, TellsSources};
 
 use bundle::parts_of;
 use command_answers::{Answer, DependencesAnswer, Stop, nest_of, size_of};

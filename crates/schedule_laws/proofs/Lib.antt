@@ -1,6 +1,6 @@
 pub mod Sources
 pub mod DoneAnswers
 pub mod WithRun
-pub mod Traced
+pub mod TraceTexts
 pub mod TrimOutcomes
 pub mod Worked

@@ -8,7 +8,7 @@ use Rattle.loop_lex.specs.Tokens.{tokens}
 use Rattle.loop_lex.specs.declared.token.Token.{Token}
 use Rattle.sanlp.specs.declared.nest.Nest.{Nest}
 use Rattle.command_answers.specs.Source.{GivesWithinSize, bound, within_size}
-use Rattle.compaan_top.specs.Certified.{AgreeOn, HasCertificate}
+use Rattle.compaan_top.specs.CheckAnswers.{AgreeOn, HasCertificate}
 use Rattle.compaan_top.proofs.CertVerdict.{HasBinding, HasTotal, SentenceStays, TokensStay, binding_of, gives_ended}
 use Rattle.compaan_top.proofs.CertVerdict.{rebound, total_of}
 

@@ -20,7 +20,7 @@ use Rattle.sanlp.specs.declared.nest.Nest.{Nest}
 use Rattle.source_tree.specs.declared.cert.Cert.{Cert}
 use Rattle.network_laws.specs.Entries.{text_with_run}
 use Rattle.command_answers.specs.Source.{GivesWithinSize}
-use Rattle.compaan_top.specs.Certified.{Accepts, HasCertificate}
+use Rattle.compaan_top.specs.CheckAnswers.{Accepts, HasCertificate}
 use Rattle.compaan_top.specs.Headline.{HasFittingCertificate}
 use Rattle.compaan_top.proofs.Acceptance.{NothingWrongFits, ReadsItsText, TextIsRead, checks_vouched, outcome_vouched}
 use Rattle.compaan_top.proofs.Acceptance.{same_pair}

@@ -4,7 +4,7 @@ use Rattle.bundle.specs.Parts.{certificate_part}
 use Rattle.command_line.specs.declared.words.Command.TheVariants.{Check, Trace}
 use Rattle.command_line.specs.declared.words.Order.{Order}
 use Rattle.command_answers.specs.declared.status.Status.TheVariants.{Done}
-use Rattle.compaan_top.specs.Certified.{Accepts}
+use Rattle.compaan_top.specs.CheckAnswers.{Accepts}
 use Rattle.compaan_top.specs.Headline.{accepted}
 use Rattle.call_endings.specs.Outcomes.{Outcome}
 use Rattle.compaan_top.specs.Outcome.{IsOutcome}

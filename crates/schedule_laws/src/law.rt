@@ -4,7 +4,7 @@ ghost use Rattle.bundle.specs.Parts.{source_part};
 ghost use Rattle.cert_text.specs.StandsFor.{StandsFor};
 ghost use Rattle.command_answers.specs.Source.{GivesWithinSize};
 ghost use Rattle.command_line.specs.declared.words.Order.{Order};
-ghost use Rattle.compaan_top.specs.Certified.{AgreeOn, Certifies, HasCertificate};
+ghost use Rattle.compaan_top.specs.CheckAnswers.{AgreeOn, Certifies, HasCertificate};
 ghost use Rattle.compaan_top.specs.Headline.{HasFittingCertificate};
 ghost use Rattle.call_endings.specs.Outcomes.{Outcome};
 ghost use Rattle.net_checker.specs.Fits.{Fits};

@@ -1,4 +1,4 @@
-use Rattle.cert_places.proofs.Decided.{deep_decided, line_decided, number_decided}
+use Rattle.cert_places.proofs.RefusalLines.{deep_decided, line_decided, number_decided}
 use Rattle.cert_places.proofs.law.first_lines_decide.Goals as goal
 
 pub returns : goal.returns

@@ -1,5 +1,5 @@
 use Rattle.std.proofs.lemmas.Result.{err_from_is_err_and}
-use Rattle.compaan_top.specs.Certifying.{PrintsCertificate, source_refused}
+use Rattle.compaan_top.specs.CertOutcomes.{PrintsCertificate, source_refused}
 use Rattle.command_answers.specs.Replying.{JudgesTexts}
 use Rattle.compaan_top.proofs.CertificateAnswers.{prints_certificate}
 use Rattle.command_answers.proofs.Stops.{without_nest}

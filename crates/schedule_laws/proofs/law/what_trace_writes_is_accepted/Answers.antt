@@ -1,5 +1,5 @@
 use Rattle.witness_plan.specs.Schedules.{planned_network}
-use Rattle.schedule_laws.proofs.Traced.{accepts_traced, traces_full_run}
+use Rattle.schedule_laws.proofs.TraceTexts.{accepts_traced, traces_full_run}
 use Rattle.schedule_laws.proofs.law.what_trace_writes_is_accepted.Goals as goal
 
 pub returns : goal.returns

@@ -9,15 +9,15 @@ use Rattle.call_endings.specs.Reads.{Reads, source_alone, source_and_data, sourc
 use Rattle.compaan_top.specs.Outcome.{IsOutcome}
 
 -- the bundle is all that the source has left, and empty where nothing is read
-abbrev pub IsTold : Reads → Option (List ℕ) → List ℕ → Type 0
-IsTold source_alone left bundle = left ≡ Some bundle
-IsTold source_and_data left bundle = left ≡ Some bundle
-IsTold source_and_certificate left bundle = left ≡ Some bundle
-IsTold nothing left bundle = bundle ≡ []
+abbrev pub HasLeft : Reads → Option (List ℕ) → List ℕ → Type 0
+HasLeft source_alone left bundle = left ≡ Some bundle
+HasLeft source_and_data left bundle = left ≡ Some bundle
+HasLeft source_and_certificate left bundle = left ≡ Some bundle
+HasLeft nothing left bundle = bundle ≡ []
 
 -- the status is that of neither a failed read, a failed write nor want of memory
-abbrev pub IsAnswered : Status → Type 0
-IsAnswered status = (status ≢ InputFailed) × (status ≢ OutputFailed) × (status ≢ NoMemory)
+abbrev pub IsDecision : Status → Type 0
+IsDecision status = (status ≢ InputFailed) × (status ≢ OutputFailed) × (status ≢ NoMemory)
 
 -- the call wrote, with its status, what the order and the bundle come to
 pub record ComesTo (wanted : Option Order) (bundle : List ℕ) (output complaint : Change)

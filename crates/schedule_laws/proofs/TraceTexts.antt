@@ -27,7 +27,7 @@ use Rattle.command_answers.specs.Source.{GivesWithinSize}
 use Rattle.command_answers.specs.Tracing.{EndsNetwork, Traces, source_refused, traced}
 use Rattle.command_answers.specs.declared.refusal.Refusal.{Refusal}
 use Rattle.command_answers.specs.declared.status.Status.TheVariants.{Done}
-use Rattle.compaan_top.specs.Certified.{AgreeOn, StandsForPlanned}
+use Rattle.compaan_top.specs.CheckAnswers.{AgreeOn, StandsForPlanned}
 use Rattle.call_endings.specs.Complaints.{refusal_status}
 use Rattle.call_endings.specs.Outcomes.{Outcome, outcome_of}
 use Rattle.compaan_top.specs.Outcome.{IsOutcome, Performs}

@@ -60,8 +60,8 @@ cert_text.Stretches.stretch_blocks channel_plan.Tokens.is_used channel_plan.Toke
 clock_sim.Clocks.clocked_run command_answers.Source.Gives command_answers.Source.GivesWithinSize
 call_endings.Endings.EndsBy call_endings.Reads.ReadsTo compaan_top.Commands.read_by compaan_top.Commands.reads_of call_endings.Complaints.refusal_line
 call_endings.Complaints.refusal_status compaan_top.Headline.HasFittingCertificate compaan_top.Headline.HasSoundCertificate
-compaan_top.Headline.IsAcceptable compaan_top.Laws.IsDone compaan_top.Laws.IsValid compaan_top.Outcome.IsOutcome compaan_top.Told.ComesTo
-compaan_top.Told.IsTold deps_text.Dependences.HasTree
+compaan_top.Headline.IsAcceptable compaan_top.Laws.IsDone compaan_top.Laws.IsValid compaan_top.Outcome.IsOutcome compaan_top.InputBytes.ComesTo
+compaan_top.InputBytes.HasLeft deps_text.Dependences.HasTree
 deps_text.DepsText.TellsDependences tree_graphs.Joint.later_systems tree_graphs.Joint.none_systems tree_graphs.Joint.place_systems
 tree_graphs.Joint.point_systems tree_graphs.Joint.head_systems tree_graphs.Joint.write_systems_of stride_trees.Problem.problem_rows
 stride_trees.Problem.problem_writes stride_trees.Problem.problem_reads
@@ -71,7 +71,7 @@ net_checker.Sources.AreUsable net_checker.Sources.IsUsable net_core.Cuts.IsLegal
 net_maker.Origins.IsUsableOrigin node_automata.Automata.incoming node_automata.Automata.outgoing process_derive.Scripts.point_events
 reorder_slots.Slots.gets_for reorder_slots.Slots.lowest_free sanlp.Meaning.exec sanlp.Memory.Memory sanlp.Tags.tag_at
 sanlp.Writers.last_writer sanlp.Writers.value_at source_tree.Wanted.IsWanted source_tree.Wanted.IsWriterBy
-compaan_top.Telling.GivesTrees trim_text.TrimText.channel_line vhdl_text.Constants.column_values vhdl_text.Constants.variable_values
+compaan_top.DepsOutcomes.GivesTrees trim_text.TrimText.channel_line vhdl_text.Constants.column_values vhdl_text.Constants.variable_values
 vhdl_text.Expressions.expr_text vhdl_text.Literals.literal vhdl_text.VhdlText.node_text witness_plan.Schedules.is_ready
 witness_plan.Sequential.sequential_schedule
 """.split()

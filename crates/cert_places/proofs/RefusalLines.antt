@@ -1,4 +1,9 @@
--- A refusal of the whole text is one of its parts, but for `Long`, and so it is decided by the lines up to its own.
+-- A refusal that names a line is decided by the lines up to that one.
+--
+-- Every refusal but `Long` comes of reading the text, not of the scripts that it stands for (`whole_refused`), and there is a line
+-- at which the reading stops (`text_stop`). Reading stops there in the same way whatever stands behind that line, so each text that
+-- begins with these lines is refused alike, and no network and certificate has such a text (`decided`). `Long` isn't told here: it
+-- is decided by the whole text.
 use Rattle.std.proofs.Common.{◌≡◌, ◌≢◌, ℕ, ◌+◌, Option, Some, None, List, [], ◌∷◌, ◌++◌, Result, Ok, Err, length}
 use Rattle.std.proofs.Common.{length-append, refl, sym, ap, subst, ◌∙◌, arith}
 use Rattle.std.proofs.lemmas.List.Elements.{All-append, All-cons, All-nil}
